@@ -18,7 +18,9 @@ use af_io::{Gate, Store, StoreError};
 use af_journal_laws::what_follows_of_rounds;
 use af_model::Journal;
 use af_offline::{Ending, Loaded, Stop, load_script, write_file};
-use af_parties_law::{a_play_is_told_alone, what_a_play_hands_back_records_its_run};
+use af_parties_law::{
+    a_play_is_told_alone, a_play_spares_what_nobody_poked, what_a_play_hands_back_records_its_run,
+};
 use af_playing::{Piece, PlayFault};
 use af_rendering::Played;
 use af_tally::Costs;
@@ -134,6 +136,7 @@ fn play<R: Threads + Sync, S: Store, G: Gate>(
     what_follows_of_rounds();
     what_a_play_hands_back_records_its_run();
     a_play_is_told_alone();
+    a_play_spares_what_nobody_poked();
     let piece = Piece {
         script: &loaded.script,
         files: &loaded.files,

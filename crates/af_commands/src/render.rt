@@ -12,6 +12,7 @@ ghost use Rattle.af_script.specs.Form.{IsScript};
 use af_io::{Store, StoreError};
 use af_journal_laws::what_follows_of_turn_runs;
 use af_offline::{Loaded, Stop, load_script};
+use af_parties_law::a_render_spares_what_nobody_poked;
 use af_rendering::Outcome;
 use af_script::Script;
 use af_tally::{Costs, Summary};
@@ -67,6 +68,7 @@ pub fn play<S: Store>(
 {
     is_accepted(&loaded.script);
     what_follows_of_turn_runs();
+    a_render_spares_what_nobody_poked();
     let played = af_rendering::render(alloc, &loaded.script, &loaded.files, store, target, steps);
     let told = tell(alloc, &played);
     drop(played);

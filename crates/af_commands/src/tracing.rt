@@ -14,7 +14,9 @@ use crate::render::is_accepted;
 use af_io::{Gate, Store};
 use af_journal_laws::what_follows_of_rounds;
 use af_offline::{Loaded, Stop, load_script, write_file};
-use af_parties_law::{a_play_is_told_alone, what_a_play_hands_back_records_its_run};
+use af_parties_law::{
+    a_play_is_told_alone, a_play_spares_what_nobody_poked, what_a_play_hands_back_records_its_run,
+};
 use af_playing::{Piece, PlayFault};
 use af_rendering::Played;
 use af_tally::Costs;
@@ -71,6 +73,7 @@ fn trace<R: Threads + Sync, S: Store, G: Gate>(
     what_follows_of_rounds();
     what_a_play_hands_back_records_its_run();
     a_play_is_told_alone();
+    a_play_spares_what_nobody_poked();
     let mut text = Vec::new(alloc);
     let piece = Piece {
         script: &loaded.script,

@@ -1,5 +1,5 @@
 -- Basic lemmas that several files here, and of the crates above, cite.
-use Rattle.std.proofs.Common.{None, Option, Some, is_some, refl, sym, true, true≢false, ◌≡◌, ◌≢◌}
+use Rattle.std.proofs.Common.{None, Option, Some, is_some, refl, sym, true, true≢false, ◌≡◌}
 use Rattle.af_engine.proofs.Common.{ServerState}
 
 pub some_of : (o : Option ServerState) → is_some o ≡ true → (s : ServerState) × (o ≡ Some s)

@@ -1,40 +1,26 @@
 -- The ends of a new mixer: they are new, in order, and belong together.
-use Rattle.std.proofs.Common.{◌≡◌, ℕ, suc, ◌<◌, ◌≤◌, true, false, List, [], ◌∷◌, length, map, replicate, Some, refl, sym, ap, ◌∙◌, subst, arith}
-use Rattle.af_engine.proofs.Common.{All, AreClientsOf, AreNew, IsInOrder as IsFastInOrder, IsLinked, IsMade, IsStreamOf, Links, Made, MixerState, NormalState, ServerState, TrackList, kept_of, length-replicate, made_of, out_made, setup_of as setup_in, slice_get, slice_get_within, some_same, stream_at}
+use Rattle.std.proofs.Common.{◌≡◌, ℕ, ◌≤◌, true, false, List, length, map, option_map, replicate, Some, sym, ap, ◌∙◌, subst, arith}
+use Rattle.af_engine.proofs.Common.{All, AreClientsOf, AreLinksOf, AreNew, AreNewEnds, AreNewTracks, AreTogether, EndStates, EngineTrack, IsEngineTrack, IsInOrder as IsFastInOrder, IsLinked, IsMade, IsNewTrack, IsStreamOf, Links, Made, MixerSpec, MixerState, NormalState, ServerState, SharedState, TrackEnds, TrackList, get_or_from_slice_get, kept_of, length-map, length-replicate, made_of, out_made, same_lists, setting_of as setting_in, setup_of as setup_in, slice_get, slice_get-map, slice_get_within, some_same, stream_at}
 use Rattle.std.proofs.lemmas.List.Elements.{All-map}
 use Rattle.af_cblk.specs.declared.view.ClientPart.{ClientPart}
 use Rattle.af_normal.proofs.Basics.{within}
 use Rattle.af_link.specs.Linked.{AreLinked}
 use Rattle.af_life.specs.declared.kept.Setting.{Setting}
-use Rattle.af_life.specs.Kept.{new_track, new_normal}
+use Rattle.af_life.specs.Kept.{new_track}
 use Rattle.af_normal.specs.Order.{IsInOrder as IsNormalInOrder}
-use Rattle.af_engine.specs.declared.ends.TrackEnds.{TrackEnds}
-use Rattle.af_engine.specs.declared.spec.EngineTrack.{EngineTrack}
-use Rattle.af_engine.specs.declared.spec.MixerSpec.{MixerSpec}
-use Rattle.af_engine.specs.Engines.{EngineState, AreTogether}
-use Rattle.af_engine.specs.MixerSpecs.{IsEngineTrack, setting_of, setup_of}
-use Rattle.af_engine.specs.NewEnds.{EndStates, AreNewEnds, ends_of}
+use Rattle.af_engine.specs.MixerSpecs.{setting_of}
+use Rattle.af_engine.specs.NewEnds.{ends_of}
 use Rattle.af_engine.specs.NewEngine.{IsNewEngine, tracks_of}
-use Rattle.af_engine.specs.NewTracks.{AreNewTracks, IsNewTrack}
-use Rattle.af_engine.specs.Shares.{SharedState, AreLinksOf}
 
 -- ## The settings
 
--- the settings are those of the specs, if they are so place by place
-settings_by : (xs : List Setting) (specs : List EngineTrack) → length xs ≡ length specs
-    → ((i : ℕ) → i < length specs → (spec : EngineTrack) × (slice_get specs i ≡ Some spec) × (slice_get xs i ≡ Some (setting_of spec))) → xs ≡ map setting_of specs
-settings_by [] [] long each = refl
-settings_by [] (s ∷ specs) long each = absurd (omega arith)
-settings_by (x ∷ xs) [] long each = absurd (omega arith)
-settings_by (x ∷ xs) (s ∷ specs) long each =
-    let first = each 0 (omega arith) in
-    let head : x ≡ setting_of s = some_same x (setting_of first.0) first.2 ∙ ap setting_of (some_same first.0 s (sym first.1)) in
-    let rest : xs ≡ map setting_of specs = settings_by xs specs (omega arith) (λ i lt. let there = each (suc i) (omega arith) in (there.0, there.1, there.2)) in
-    λ i. head i ∷ rest i
-
+-- the settings are those of the specs, place by place
 pub settings_are : (specs : List EngineTrack) (streams commands : List Made) (clients : List TrackEnds) (tracks : TrackList) → AreNewTracks IsNewTrack (length specs) specs streams commands clients tracks → tracks.settings ≡ map setting_of specs
-settings_are specs streams commands clients tracks ts =
-    settings_by tracks.settings specs ts.lists.0 (λ i lt. let one = ts.each i lt in (one.spec, one.spec_at, one.setting_at ∙ ap (λ (s : Setting). Some s) one.new.setting_is))
+settings_are specs streams commands clients tracks ts = same_lists tracks.settings (map setting_of specs) (ts.lists.0 ∙ sym (length-map specs setting_of))
+    (λ k d lt.
+    let one = ts.each k (omega (arith, lt, ts.lists.0)) in
+    get_or_from_slice_get tracks.settings k (setting_in one.setup) d one.setting_at ∙ one.new.setting_is
+    ∙ sym (get_or_from_slice_get (map setting_of specs) k (setting_of one.spec) d (slice_get-map setting_of specs k ∙ ap (option_map setting_of) one.spec_at)))
 
 -- no scale is above 1
 pub scales_fit : (specs : List EngineTrack) (settings : List Setting) → settings ≡ map setting_of specs → All IsEngineTrack specs → All (λ (s : Setting). s.scale ≤ 4096) settings
@@ -118,46 +104,28 @@ module _ (specs : List EngineTrack) (shared : SharedState) (clients : List Track
 module _ (spec : MixerSpec) (shared : SharedState) (clients : List TrackEnds) (tracks : TrackList) (e : EndStates) (m : NormalState) (f : MixerState)
     (ts : AreNewTracks IsNewTrack (length spec.tracks.now) spec.tracks.now shared.streams shared.commands clients tracks) (ends : AreNewEnds spec.frames spec.normal shared e)
     (made : IsMade spec.frames spec.normal tracks e.mutator e.reader e.from m) (fast : f ≡ made_of e.observer e.writer e.to spec.cycles spec.frames) where
-  abbrev engine : EngineState
-  engine = record { tracks = clients; normal = m; fast = f }
-
   settings_same : tracks.settings ≡ map setting_of spec.tracks.now
   settings_same = settings_are spec.tracks.now shared.streams shared.commands clients tracks ts
 
   tracks_same : tracks ≡ tracks_of spec m
-  tracks_same =
-      let streams : tracks.streams ≡ m.streams = sym (ap (λ (x : NormalState). x.streams) made.is) in
-      let commands : tracks.commands ≡ m.commands = sym (ap (λ (x : NormalState). x.commands) made.is) in
-      λ i. record { settings = settings_same i; streams = streams i; commands = commands i }
+  tracks_same = λ i. record { settings = settings_same i; streams = (sym made.is i).streams; commands = (sym made.is i).commands }
 
   ends_same : e ≡ ends_of m f
-  ends_same =
-      let mutator : e.mutator ≡ m.mutator = sym (ap (λ (x : NormalState). x.mutator) made.is) in
-      let reader : e.reader ≡ m.reader = sym (ap (λ (x : NormalState). x.reader) made.is) in
-      let from : e.from ≡ m.pipe = sym (ap (λ (x : NormalState). x.pipe) made.is) in
-      let observer : e.observer ≡ f.observer = sym (ap (λ (x : MixerState). x.observer) fast) in
-      let writer : e.writer ≡ f.writer = sym (ap (λ (x : MixerState). x.writer) fast) in
-      let to : e.to ≡ f.pipe = sym (ap (λ (x : MixerState). x.pipe) fast) in
-      λ i. record { mutator = mutator i; reader = reader i; from = from i; observer = observer i; writer = writer i; to = to i }
+  ends_same = λ i. ends_of (sym made.is i) (sym fast i)
 
-  setup_same : setup_in m ≡ setup_of spec
-  setup_same =
-      let there : setup_in m ≡ record { frames = spec.frames; normal = spec.normal; settings = tracks.settings } = ap setup_in made.is in
-      there ∙ (λ i. record { frames = spec.frames; normal = spec.normal; settings = settings_same i })
-
-  kept_same : kept_of m ≡ new_normal (setup_of spec)
-  kept_same =
-      let new = ends.mutator in
-      let many : replicate (length tracks.settings) new_track ≡ replicate (length (map setting_of spec.tracks.now)) new_track = ap (λ (xs : List Setting). replicate (length xs) new_track) settings_same in
-      let there : kept_of m ≡ record { tracks = replicate (length tracks.settings) new_track; draft = e.mutator.draft; dirty = e.mutator.dirty; pushed = e.mutator.past.number; last = e.mutator.past.last; ended = false } = ap kept_of made.is in
-      there ∙ (λ i. record { tracks = many i; draft = new.begins.2 i; dirty = new.idle.0 i; pushed = new.silent.0 i; last = new.begins.1 i; ended = false })
-
-  pub new_engine : IsNewEngine spec shared engine
-  new_engine = record {
+  pub new_engine : IsNewEngine spec shared (record { tracks = clients; normal = m; fast = f })
+  new_engine = let new = ends.mutator in record {
     tracks = subst (AreNewTracks IsNewTrack (length spec.tracks.now) spec.tracks.now shared.streams shared.commands clients) tracks_same ts;
     ends = subst (AreNewEnds spec.frames spec.normal shared) ends_same ends;
     normal = subst (λ (x : TrackList × EndStates). IsMade spec.frames spec.normal x.0 x.1.mutator x.1.reader x.1.from m) (λ i. (tracks_same i, ends_same i)) made;
-    setup = setup_same;
-    kept = kept_same;
+    setup = ap setup_in made.is ∙ (λ i. record { frames = spec.frames; normal = spec.normal; settings = settings_same i });
+    kept = ap kept_of made.is ∙ (λ i. record {
+      tracks = replicate (length (settings_same i)) new_track;
+      draft = new.begins.2 i;
+      dirty = new.idle.0 i;
+      pushed = new.silent.0 i;
+      last = new.begins.1 i;
+      ended = false;
+    });
     fast = subst (λ (x : EndStates). f ≡ made_of x.observer x.writer x.to spec.cycles spec.frames) ends_same fast;
   }

@@ -1,9 +1,8 @@
 -- The ends of the two mixers meet.
 use Rattle.std.proofs.Common.{◌≡◌, sym, ap, subst, ◌∙◌}
-use Rattle.af_engine.proofs.Common.{HaveHistories, IsInOrder as IsFastInOrder, IsLinked, Links, MixerState, NormalState, Observes, Others, OutSide, ServerState, StreamNames, ends_met, mixer_met, observer_met, out_met, queue_met, writer_met}
+use Rattle.af_engine.proofs.Common.{EndsMet, HaveHistories, IsInOrder as IsFastInOrder, IsLinked, Links, MixerState, NormalState, Observes, Others, OutSide, ServerState, StreamNames, ends_met, ends_of, mixer_met, observer_met, out_met, queue_met, writer_met}
 use Rattle.af_fast.proofs.Meeting.{met_order}
 use Rattle.af_link.specs.Reports.{WriterSide}
-use Rattle.af_engine.specs.Met.{EndsMet, ends_of}
 
 module _ (links : Links) (m m1 n : NormalState) (f : MixerState) (o : Observes ServerState StreamNames) (w : WriterSide) (out : OutSide) (queued : m1 ≡ queue_met m f.observer) (observed : o ≡ observer_met m f.observer)
     (ended : n ≡ ends_met m1 f.writer f.pipe) (wrote : (w ≡ writer_met m1 f.writer) × (out ≡ out_met m1 f.pipe)) where

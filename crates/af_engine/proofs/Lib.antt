@@ -1,7 +1,6 @@
 pub mod Common
 pub mod Basics
 pub mod Specs
-pub mod NewLines
 pub mod MoreTracks
 pub mod Begins
 pub mod EndsMeet

@@ -1,48 +1,30 @@
 -- The slot in which a state carries the proxy of a track.
-use Rattle.std.proofs.Common.{◌≡◌, ◌≢◌, ℕ, zero, suc, ◌<◌, ◌≤◌, ◌==◌, ◌⊎◌, inl, inr, Bool, true, false, true≢false, if◌then◌else◌, List, Option, Some, None, refl, sym, ap, subst, ◌∙◌, ⊎_elim, arith}
-use Rattle.af_engine.proofs.Common.{CarriesNone, FastState, ServerState, and_from, and_left, and_parts, at, carries, cases_eq, eq-eqb, eqb-true, none-some, same_Some, slot_of, slots}
-use Rattle.af_engine.specs.Met.{is_slot_of, item_at, or_else, slot_below, slot_for}
+use Rattle.std.proofs.Common.{◌≡◌, ◌≢◌, ℕ, zero, suc, ◌+◌, ◌-◌, ◌<◌, ◌≤◌, ◌==◌, Bool, true, false, true≢false, if◌then◌else◌, List, Option, Some, None, refl, sym, ap, subst, ◌∙◌, ⊎_elim, arith}
+use Rattle.af_engine.proofs.Common.{CarriesNone, FastState, ServerState, and_from, and_left, and_parts, at, carries, cases_eq, eq-eqb, eqb-true, is_slot_of, item_at, none-some, or_else, same_Some, slot_below, slot_for, slot_of, slots}
 
 module _ (x : FastState) (track : ℕ) where
-  by_last : (n k : ℕ) (o : Option ℕ) (b : Bool) → slot_below x track n ≡ o → is_slot_of x track n ≡ b → or_else o (if b then Some n else None) ≡ Some k
-      → (slot_below x track n ≡ Some k) ⊎ ((n ≡ k) × (is_slot_of x track n ≡ true))
-  by_last n k (Some j) b found here is = inl (found ∙ is)
-  by_last n k None true found here is = inr (same_Some n k is, here)
-  by_last n k None false found here is = absurd (none-some k is)
-
-  below_or_last : (n k : ℕ) → (slot_below x track n ≡ Some k → (k < n) × (is_slot_of x track k ≡ true)) → (slot_below x track n ≡ Some k) ⊎ ((n ≡ k) × (is_slot_of x track n ≡ true)) → (k < suc n) × (is_slot_of x track k ≡ true)
-  below_or_last n k before (inl found) = let b = before found in (omega (arith, b.0), b.1)
-  below_or_last n k before (inr here) = (omega (arith, here.0), subst (λ (j : ℕ). is_slot_of x track j ≡ true) here.0 here.1)
+  below_by : (n k : ℕ) (o : Option ℕ) (b : Bool) → (o ≡ Some k → (k < n) × (is_slot_of x track k ≡ true)) → is_slot_of x track n ≡ b
+      → or_else o (if b then Some n else None) ≡ Some k
+      → (k < suc n) × (is_slot_of x track k ≡ true)
+  below_by n k (Some j) b before here is = let found = before is in (omega (arith, found.0), found.1)
+  below_by n k None true before here is = subst (λ (j : ℕ). (j < suc n) × (is_slot_of x track j ≡ true)) (same_Some n k is) (omega arith, here)
+  below_by n k None false before here is = absurd (none-some k is)
 
   -- a slot that is found among the first n lies among them and carries the track
   below_is : (n k : ℕ) → slot_below x track n ≡ Some k → (k < n) × (is_slot_of x track k ≡ true)
   below_is zero k is = absurd (none-some k is)
-  below_is (suc n) k is = below_or_last n k (below_is n k) (by_last n k (slot_below x track n) (is_slot_of x track n) refl refl is)
-
-  or_before : (n k j : ℕ) → slot_below x track k ≡ Some j → (slot_below x track (suc n) ≡ Some j) ⊎ (k ≤ n) → (k ≤ n → slot_below x track n ≡ Some j) → slot_below x track (suc n) ≡ Some j
-  or_before n k j found (inl e) before = e
-  or_before n k j found (inr le) before = ap (λ (o : Option ℕ). or_else o (if is_slot_of x track n then Some n else None)) (before le)
-
-  at_end : (n k j : ℕ) → slot_below x track k ≡ Some j → k ≤ suc n → (k ≡ suc n) ⊎ (k ≡ suc n → ⊥) → (slot_below x track (suc n) ≡ Some j) ⊎ (k ≤ n)
-  at_end n k j found le (inl e) = inl (subst (λ (m : ℕ). slot_below x track m ≡ Some j) e found)
-  at_end n k j found le (inr ne) = inr (omega (arith, le, ne))
+  below_is (suc n) k is = below_by n k (slot_below x track n) (is_slot_of x track n) (below_is n k) refl is
 
   -- a slot that is found among some slots is found among more
-  below_stays : (n k j : ℕ) → slot_below x track k ≡ Some j → k ≤ n → slot_below x track n ≡ Some j
-  below_stays zero k j found le = subst (λ (m : ℕ). slot_below x track m ≡ Some j) (let e : k ≡ 0 = omega arith in e) found
-  below_stays (suc n) k j found le = or_before n k j found (at_end n k j found le (cases_eq k (suc n))) (λ fits. below_stays n k j found fits)
-
-  -- no slot is found among one more, if that one doesn't carry the track
-  pub none_more : (k : ℕ) → slot_below x track k ≡ None → is_slot_of x track k ≡ false → slot_below x track (suc k) ≡ None
-  none_more k none not = λ i. or_else (none i) (if not i then Some k else None)
-
-  -- a slot is found among one more, if none was before and that one carries the track
-  found_more : (k : ℕ) → slot_below x track k ≡ None → is_slot_of x track k ≡ true → slot_below x track (suc k) ≡ Some k
-  found_more k none carried = λ i. or_else (none i) (if carried i then Some k else None)
+  below_stays : (m n k j : ℕ) → n ≡ m + k → slot_below x track k ≡ Some j → slot_below x track n ≡ Some j
+  below_stays zero n k j is found = subst (λ (i : ℕ). slot_below x track i ≡ Some j) (let e : k ≡ n = omega (arith, is) in e) found
+  below_stays (suc m) zero k j is found = absurd (omega (arith, is))
+  below_stays (suc m) (suc n) k j is found = ap (λ (o : Option ℕ). or_else o (if is_slot_of x track n then Some n else None))
+      (below_stays m n k j (omega (arith, is)) found)
 
   pub found_at : (k : ℕ) → k < slots → slot_below x track k ≡ None → is_slot_of x track k ≡ true → slot_for x track ≡ Some k
   unfolding slot_for
-  found_at k lt none carried = below_stays slots (suc k) k (found_more k none carried) (omega (arith, lt))
+  found_at k lt none carried = below_stays (slots - suc k) slots (suc k) k (omega (arith, lt)) (λ i. or_else (none i) (if carried i then Some k else None))
 
   pub none_found : slot_below x track slots ≡ None → slot_for x track ≡ None
   unfolding slot_for
@@ -54,16 +36,16 @@ module _ (x : FastState) (track : ℕ) where
   slot_is k is = let b = below_is slots k is in let parts = and_parts (carries x k) ((slot_of x k).track == track) b.1 in
       (b.0, parts.0, eqb-true (slot_of x k).track track parts.1)
 
-  none_of : (n k : ℕ) (o : Option ℕ) (b : Bool) → slot_below x track n ≡ o → is_slot_of x track n ≡ b → or_else o (if b then Some n else None) ≡ None → (slot_below x track n ≡ None) × (is_slot_of x track n ≡ false)
-  none_of n k (Some j) b found here is = absurd (none-some j (sym is))
-  none_of n k None true found here is = absurd (none-some n (sym is))
-  none_of n k None false found here is = (found, here)
+  none_of : (n : ℕ) (o : Option ℕ) (b : Bool) → or_else o (if b then Some n else None) ≡ None → (o ≡ None) × (b ≡ false)
+  none_of n (Some j) b is = absurd (none-some j (sym is))
+  none_of n None true is = absurd (none-some n (sym is))
+  none_of n None false is = (refl, refl)
 
   none_at : (n k : ℕ) → slot_below x track n ≡ None → k < n → is_slot_of x track k ≡ false
   none_at zero k none lt = absurd (omega (arith, lt))
   none_at (suc n) k none lt =
-      let before = none_of n k (slot_below x track n) (is_slot_of x track n) refl refl none in
-      ⊎_elim (λ (e : k ≡ n). subst (λ (j : ℕ). is_slot_of x track j ≡ false) (sym e) before.1) (λ (ne : k ≢ n). none_at n k before.0 (omega (arith, lt, ne))) (cases_eq k n)
+      let before = none_of n (slot_below x track n) (is_slot_of x track n) none in
+      ⊎_elim (λ (e : k ≡ n). ap (is_slot_of x track) e ∙ before.1) (λ (ne : k ≢ n). none_at n k before.0 (omega (arith, lt, ne))) (cases_eq k n)
 
   -- if no slot is found, none carries the track
   pub none_there : slot_for x track ≡ None → (k : ℕ) → k < slots → is_slot_of x track k ≡ false
@@ -80,7 +62,8 @@ module _ (x : FastState) (track : ℕ) where
 
   none_below : CarriesNone x → (n : ℕ) → n ≤ slots → slot_below x track n ≡ None
   none_below none zero le = refl
-  none_below none (suc n) le = none_more n (none_below none n (omega (arith, le))) (and_left (carries x n) ((slot_of x n).track == track) (none n (omega (arith, le))))
+  none_below none (suc n) le = λ i. or_else (none_below none n (omega (arith, le)) i)
+      (if and_left (carries x n) ((slot_of x n).track == track) (none n (omega (arith, le))) i then Some n else None)
 
   -- a state that carries nothing has no slot for the track
   pub none_carried : CarriesNone x → slot_for x track ≡ None

@@ -1,7 +1,6 @@
 -- What the meetings of one track come to.
 use Rattle.std.proofs.Common.{◌≡◌, ◌≢◌, ℕ, ◌<◌, true, false, true≢false, is_some, List, length, slice_get, slice_set, Option, Some, None, refl, sym, ap, subst, ◌∙◌, get_or-set_other}
-use Rattle.af_engine.proofs.Common.{ClientState, FastState, HandSide, Links, Made, MeetsStream, MeetsTrack, ServerState, at, client_made, get_set_other, get_set_same, slice_get_within, stream_at}
-use Rattle.af_engine.specs.Met.{ClientMet, MeetsAway, Proxies, Spot, SpotMet, item_at, slot_for, spot_of}
+use Rattle.af_engine.proofs.Common.{ClientMet, ClientState, FastState, HandSide, Links, Made, MeetsAway, MeetsStream, MeetsTrack, Proxies, ServerState, Spot, SpotMet, at, client_made, get_set_other, get_set_same, item_at, slice_get_within, slot_for, spot_of, stream_at}
 use Rattle.af_engine.proofs.MetSlots.{held_other}
 
 -- the client of a stream whose proxy is home met what is there
@@ -35,52 +34,45 @@ module _ (x : FastState) (i : ℕ) (links : Links) (streams streams' : List (Opt
   other_command : (j : ℕ) → j ≢ i → slice_get commands' j ≡ slice_get commands j
   other_command j ne = ap (λ (cs : List ServerState). slice_get cs j) t.commands_are ∙ get_set_other commands i j t.command' ne
 
-  -- the client of a track met its proxies, if the stream proxy is home
-  pub met_home : is_some (stream_at streams i) ≡ true → ClientMet (Unit {0}) (spot_of x before i) (spot_of x (at_hands hands' items) i) c e d f
-  met_home there = record {
-    same = tt;
-    command = t.command;
-    has_command = t.has_command;
-    command' = t.command';
-    has_command' = has_command;
-    commanded = t.commanded;
-    streamed = at_home (client_made c.pass) (stream_at streams i) (spot_of x before i) (spot_of x (at_hands hands' items) i) c d there refl t.streamed;
-  }
-
-  pub others_home : (j : ℕ) → j ≢ i → spot_of x (at_hands hands' items) j ≡ spot_of x before j
-  others_home j ne =
-      let stream = other_stream j ne in
-      let hand = t.hands_are.1 j ne in
-      let command = other_command j ne in
-      λ k. record { stream = stream k; held = item_at items (slot_for x j); hand = hand k; command = command k }
+  -- if the stream proxy is home, the client of the track met its proxies, and all else of other tracks stays
+  pub met_home : is_some (stream_at streams i) ≡ true
+      → ClientMet (Unit {0}) (spot_of x before i) (spot_of x (at_hands hands' items) i) c e d f
+      × ((j : ℕ) → j ≢ i → spot_of x (at_hands hands' items) j ≡ spot_of x before j)
+  met_home there = (
+    record {
+      same = tt;
+      command = t.command;
+      has_command = t.has_command;
+      command' = t.command';
+      has_command' = has_command;
+      commanded = t.commanded;
+      streamed = at_home (client_made c.pass) (stream_at streams i) (spot_of x before i) (spot_of x (at_hands hands' items) i) c d there refl t.streamed;
+    },
+    λ j ne. (λ k. record { stream = other_stream j ne k; held = item_at items (slot_for x j); hand = t.hands_are.1 j ne k; command = other_command j ne k }),
+  )
 
   -- if the stream proxy isn't home, the hand at the track, and what is held for it, met the client after that
   module _ (h g : HandSide) (items' : List (Option ServerState)) (c' : ClientState) (away_is : is_some (stream_at streams i) ≡ false) (is : slice_get hands' i ≡ Some h) where
     abbrev after : Proxies
     after = at_hands (slice_set hands' i g) items'
 
-    pub met_away : MeetsAway (client_made d.pass) (item_at items (slot_for x i)) h d (item_at items' (slot_for x i)) g c' → ClientMet (Unit {0}) (spot_of x before i) (spot_of x after i) c e c' f
-    met_away away =
-        let stay = stayed (client_made c.pass) (stream_at streams i) (slice_get hands i) c d (stream_at streams' i) (slice_get hands' i) away_is t.streamed in
-        record {
-          same = tt;
-          command = t.command;
-          has_command = t.has_command;
-          command' = t.command';
-          has_command' = has_command;
-          commanded = t.commanded;
-          streamed = at_away (client_made c.pass) (stream_at streams i) (spot_of x before i) (spot_of x after i) c c' h g away_is stay.0 (sym stay.1 ∙ is) (get_set_same hands' i g (slice_get_within hands' i h is))
-              (subst (λ (y : ClientState). MeetsAway (client_made y.pass) (item_at items (slot_for x i)) h y (item_at items' (slot_for x i)) g c') stay.2 away);
-        }
-
-    pub others_away : ((k : ℕ) → slot_for x i ≢ Some k → at items' k ≡ at items k) → (j : ℕ) → j ≢ i → spot_of x after j ≡ spot_of x before j
-    others_away others j ne =
-        let stream = other_stream j ne in
-        let held = held_other x i items items' others j ne in
-        let hand = get_set_other hands' i j g ne ∙ t.hands_are.1 j ne in
-        let command = other_command j ne in
-        λ k. record { stream = stream k; held = held k; hand = hand k; command = command k }
-
--- all else of the client stays, too, as A says
-pub with_rest : (A : Type 0) (a b : Spot) (c e d f : ClientState) → A → ClientMet (Unit {0}) a b c e d f → ClientMet A a b c e d f
-with_rest A a b c e d f same m = record { same = same; command = m.command; has_command = m.has_command; command' = m.command'; has_command' = m.has_command'; commanded = m.commanded; streamed = m.streamed }
+    pub met_away : MeetsAway (client_made d.pass) (item_at items (slot_for x i)) h d (item_at items' (slot_for x i)) g c'
+        → ((k : ℕ) → slot_for x i ≢ Some k → at items' k ≡ at items k)
+        → ClientMet (Unit {0}) (spot_of x before i) (spot_of x after i) c e c' f × ((j : ℕ) → j ≢ i → spot_of x after j ≡ spot_of x before j)
+    met_away away others =
+        let stay = stayed (client_made c.pass) (stream_at streams i) (slice_get hands i) c d (stream_at streams' i) (slice_get hands' i) away_is t.streamed in (
+          record {
+            same = tt;
+            command = t.command;
+            has_command = t.has_command;
+            command' = t.command';
+            has_command' = has_command;
+            commanded = t.commanded;
+            streamed = at_away (client_made c.pass) (stream_at streams i) (spot_of x before i) (spot_of x after i) c c' h g away_is stay.0 (sym stay.1 ∙ is) (get_set_same hands' i g (slice_get_within hands' i h is))
+                (subst (λ (y : ClientState). MeetsAway (client_made y.pass) (item_at items (slot_for x i)) h y (item_at items' (slot_for x i)) g c') stay.2 away);
+          },
+          λ j ne.
+              let held = held_other x i items items' others j ne in
+              let hand = get_set_other hands' i j g ne ∙ t.hands_are.1 j ne in
+              (λ k. record { stream = other_stream j ne k; held = held k; hand = hand k; command = other_command j ne k }),
+        )

@@ -1,18 +1,8 @@
 -- How the meeting of a track adds to those of the tracks before it.
 use Rattle.std.proofs.Common.{◌≡◌, ◌≢◌, ℕ, ◌+◌, ◌<◌, ◌⊎◌, inl, inr, List, length, length-set, slice_get, slice_set, Option, Some, None, refl, sym, ap, subst, ◌∙◌, arith}
-use Rattle.af_engine.proofs.Common.{AreClientsOf, FastState, IsInOrder as IsFastInOrder, IsLinked, Links, MixerState, NormalState, ServerState, at, cases_eq, get_set_other, get_set_same, none-some, same_Some, slice_get_within}
+use Rattle.af_engine.proofs.Common.{AreClientsOf, AreTogether, EndsMet, FastState, IsInOrder as IsFastInOrder, IsLinked, ItemStays, Links, MixerState, NormalState, Proxies, Spot, TrackEnds, TracksMet, at, cases_eq, get_set_other, get_set_same, none-some, proxies_of, same_Some, slice_get_within, slot_for, spot_of}
 use Rattle.af_normal.specs.Order.{IsInOrder as IsNormalInOrder}
-use Rattle.af_engine.specs.declared.ends.TrackEnds.{TrackEnds}
-use Rattle.af_engine.specs.Engines.{AreTogether}
-use Rattle.af_engine.specs.Met.{ItemStays, Proxies, Spot, TracksMet, slot_for, spot_of}
-
--- before any meeting no track has met its proxies
-pub none_met : {P : Type 0} (One : Spot → Spot → P → P → Type 0) (x : FastState) (clients : List P) (a : Proxies) → TracksMet One x 0 clients clients a a
-none_met One x clients a = record {
-  met = (λ i p q lt is is'. absurd (omega (arith, lt)));
-  rest = (λ i le. (refl, refl));
-  items = (λ k. inl refl);
-}
+use Rattle.af_engine.proofs.EndsMeet.{still_met}
 
 module _ {P : Type 0} (One : Spot → Spot → P → P → Type 0) (x : FastState) (n : ℕ) (clients clients' : List P) (a b c : Proxies) (p q : P) (so_far : TracksMet One x n clients clients' a b) (is : slice_get clients' n ≡ Some p)
     (met : One (spot_of x b n) (spot_of x c n) p q) (others : (i : ℕ) → i ≢ n → spot_of x c i ≡ spot_of x b i) (items : (k : ℕ) → slot_for x n ≢ Some k → at c.items k ≡ at b.items k) where
@@ -44,7 +34,7 @@ module _ {P : Type 0} (One : Spot → Spot → P → P → Type 0) (x : FastStat
       by_number (inr ne) = item_more k (items k (λ e. ne (same_Some j k (sym found ∙ e)))) (so_far.items k)
 
   -- one track more has met its proxies
-  pub one_met : TracksMet One x (n + 1) clients (slice_set clients' n q) a c
+  one_met : TracksMet One x (n + 1) clients (slice_set clients' n q) a c
   one_met = record {
     met = (λ i r s lt was now. met_at i r s lt (cases_eq i n) was now);
     rest = (λ i le. let ne : i ≢ n = (λ (e : i ≡ n). omega (arith, e, le)) in let old = so_far.rest i (omega (arith, le)) in
@@ -75,13 +65,41 @@ still_together links tracks m m' f f' n p q t is normal fast same track ours = r
   clients = all_at_set (λ i r. AreClientsOf links i r.stream r.command) tracks n p q is t.clients ours;
 }
 
--- a track met as well for an equal state of the observer, and an equal number of the track
-pub met_by_number : {P : Type 0} (One : Spot → Spot → P → P → Type 0) (x y : FastState) (i k : ℕ) (a b : Proxies) (p q : P) → x ≡ y → i ≡ k → One (spot_of x a i) (spot_of x b i) p q → One (spot_of y a k) (spot_of y b k) p q
-met_by_number One x y i k a b p q state number met = subst (λ (z : FastState × ℕ). One (spot_of z.0 a z.1) (spot_of z.0 b z.1) p q) (λ j. (state j, number j)) met
+-- The meetings of the first n tracks, after those of the ends: what they leave of both mixers, and what they come to
+pub record MetSoFar {P : Type 0} (One : Spot → Spot → P → P → Type 0) (n : ℕ) (clients clients' : List P) (m m' : NormalState)
+    (f f' : MixerState) : Type 0 where
+  pub normal : m' ≡ record m { streams = m'.streams; commands = m'.commands; hands = m'.hands }
+  pub fast : f' ≡ record f { observer = record f.observer { items = f'.observer.items } }
+  pub met : TracksMet One f.observer.past.state n clients clients' (proxies_of m f) (proxies_of m' f')
 
--- the other tracks stay as well for an equal state of the observer, and an equal number of the track
-pub others_by_number : (x y : FastState) (i k : ℕ) (a b : Proxies) → x ≡ y → i ≡ k → ((j : ℕ) → j ≢ i → spot_of x b j ≡ spot_of x a j) → (j : ℕ) → j ≢ k → spot_of y b j ≡ spot_of y a j
-others_by_number x y i k a b state number others = subst (λ (z : FastState × ℕ). (j : ℕ) → j ≢ z.1 → spot_of z.0 b j ≡ spot_of z.0 a j) (λ j. (state j, number j)) others
+-- one track more, of the number k, has met its proxies
+pub met_more : {P : Type 0} (One : Spot → Spot → P → P → Type 0) (n k : ℕ) (clients clients' : List P) (m m' m'' : NormalState) (f f' f'' : MixerState)
+    (p q : P) → MetSoFar One n clients clients' m m' f f' → slice_get clients' n ≡ Some p → k ≡ n
+    → m'' ≡ record m' { streams = m''.streams; commands = m''.commands; hands = m''.hands }
+    → f'' ≡ record f' { observer = record f'.observer { items = f''.observer.items } }
+    → (let x = f'.observer.past.state in One (spot_of x (proxies_of m' f') k) (spot_of x (proxies_of m'' f'') k) p q)
+    → (let x = f'.observer.past.state in (i : ℕ) → i ≢ k → spot_of x (proxies_of m'' f'') i ≡ spot_of x (proxies_of m' f') i)
+    → ((j : ℕ) → slot_for f'.observer.past.state k ≢ Some j → at f''.observer.items j ≡ at f'.observer.items j)
+    → MetSoFar One (n + 1) clients (slice_set clients' n q) m m'' f f''
+met_more One n k clients clients' m m' m'' f f' f'' p q so_far is number normal fast met others items =
+    let b : Proxies = proxies_of m' f' in
+    let c : Proxies = proxies_of m'' f'' in
+    let state : f'.observer.past.state ≡ f.observer.past.state = ap (λ (y : MixerState). y.observer.past.state) so_far.fast in
+    record {
+      normal = normal ∙ ap (λ (y : NormalState). record y { streams = m''.streams; commands = m''.commands; hands = m''.hands }) so_far.normal;
+      fast = fast ∙ ap (λ (y : MixerState). record y { observer = record y.observer { items = f''.observer.items } }) so_far.fast;
+      met = one_met One f.observer.past.state n clients clients' (proxies_of m f) b c p q so_far.met is
+          (subst (λ (z : FastState × ℕ). One (spot_of z.0 b z.1) (spot_of z.0 c z.1) p q) (λ j. (state j, number j)) met)
+          (subst (λ (z : FastState × ℕ). (i : ℕ) → i ≢ z.1 → spot_of z.0 c i ≡ spot_of z.0 b i) (λ j. (state j, number j)) others)
+          (subst (λ (z : FastState × ℕ). (j : ℕ) → slot_for z.0 z.1 ≢ Some j → at c.items j ≡ at b.items j) (λ j. (state j, number j)) items);
+    }
 
-pub items_by_number : (x y : FastState) (i k : ℕ) (items items' : List (Option ServerState)) → x ≡ y → i ≡ k → ((n : ℕ) → slot_for x i ≢ Some n → at items' n ≡ at items n) → (n : ℕ) → slot_for y k ≢ Some n → at items' n ≡ at items n
-items_by_number x y i k items items' state number others = subst (λ (z : FastState × ℕ). (n : ℕ) → slot_for z.0 z.1 ≢ Some n → at items' n ≡ at items n) (λ j. (state j, number j)) others
+-- all tracks have met their proxies, after the ends
+pub all_met : {P : Type 0} (One : Spot → Spot → P → P → Type 0) (n : ℕ) (clients clients' : List P) (m m' m'' : NormalState) (f f' f'' : MixerState)
+    → n ≡ length clients → EndsMet m m' f f' → proxies_of m' f' ≡ proxies_of m f → MetSoFar One n clients clients' m' m'' f' f''
+    → EndsMet m m'' f f'' × TracksMet One f.observer.past.state (length clients) clients clients' (proxies_of m f) (proxies_of m'' f'')
+all_met One n clients clients' m m' m'' f f' f'' all ends same so_far = (
+  still_met m m' m'' f f' f'' ends so_far.normal so_far.fast,
+  (let state : f'.observer.past.state ≡ f.observer.past.state = ap (λ (y : MixerState). y.observer.past.state) ends.fast in
+      subst (λ (z : FastState × ℕ × Proxies). TracksMet One z.0 z.1 clients clients' z.2 (proxies_of m'' f'')) (λ j. (state j, all j, same j)) so_far.met),
+)

@@ -1,18 +1,7 @@
 -- One track more, each with its parts at its place.
-use Rattle.std.proofs.Common.{◌≡◌, ℕ, ◌+◌, ◌<◌, ◌⊎◌, inl, inr, List, [], ◌∷◌, ◌++◌, length, Some, None, sym, ap, ◌∙◌, subst, arith}
-use Rattle.af_engine.proofs.Common.{Made, TrackList, at_before, at_last, cases_eq, get_or_append_left, get_or_at, length-append, setting_of, slice_get, with_track}
+use Rattle.std.proofs.Common.{◌≡◌, ℕ, ◌+◌, ◌<◌, ◌⊎◌, inl, inr, List, [], ◌∷◌, ◌++◌, length, Some, None, sym, ◌∙◌, subst, arith}
+use Rattle.af_engine.proofs.Common.{AreNewTracks, IsTrackAt, Made, TrackList, at_before, at_last, cases_eq, get_or_append_left, get_or_at, length-append, setting_of, slice_get, with_track}
 use Rattle.af_normal.specs.declared.make.TrackSetup.{TrackSetup}
-use Rattle.af_engine.specs.NewTracks.{IsTrackAt, AreNewTracks}
-
--- empty lists have no new tracks
-pub no_tracks : {S P : Type 0} (New : ℕ → S → Made → Made → P → TrackSetup → Type 0) (specs : List S) (streams commands : List Made) (clients : List P) (tracks : TrackList) → streams ≡ [] → commands ≡ [] → clients ≡ [] → tracks ≡ record { settings = []; streams = []; commands = [] }
-    → AreNewTracks New 0 specs streams commands clients tracks
-no_tracks New specs streams commands clients tracks no_streams no_commands no_clients none = record {
-  blocks = (ap (λ (xs : List Made). length xs) no_streams, ap (λ (xs : List Made). length xs) no_commands);
-  parties = ap (λ (xs : List _). length xs) no_clients;
-  lists = (ap (λ (t : TrackList). length t.settings) none, ap (λ (t : TrackList). length t.streams) none, ap (λ (t : TrackList). length t.commands) none);
-  each = λ i lt. absurd (omega (arith, lt));
-}
 
 module _ {S P : Type 0} (New : ℕ → S → Made → Made → P → TrackSetup → Type 0) (n : ℕ) (specs : List S) (streams commands : List Made) (clients : List P) (tracks : TrackList) (before : AreNewTracks New n specs streams commands clients tracks)
     (spec : S) (stream command : Made) (p : P) (t : TrackSetup) (here : slice_get specs n ≡ Some spec) (new : New n spec stream command p t) where

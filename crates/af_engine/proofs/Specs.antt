@@ -1,11 +1,8 @@
 -- A spec that fits gives no cause to refuse it.
 use Rattle.std.proofs.Common.{◌≡◌, ℕ, ◌≤◌, inl, inr, subst, slice_get, Some, arith}
-use Rattle.af_engine.proofs.Common.{get_or_from_slice_get, slice_get_within}
-use Rattle.af_engine.specs.declared.spec.EngineTrack.{EngineTrack}
-use Rattle.af_engine.specs.declared.spec.MixerSpec.{MixerSpec}
+use Rattle.af_engine.proofs.Common.{EngineTrack, IsCause, IsEngineTrack, IsMixerSpec, IsOutside, MixerSpec, get_or_from_slice_get, slice_get_within}
 use Rattle.af_engine.specs.declared.spec.SpecError.{SpecError}
 use Rattle.af_engine.specs.declared.spec.SpecError.TheVariants as bad
-use Rattle.af_engine.specs.MixerSpecs.{IsCause, IsEngineTrack, IsMixerSpec, IsOutside}
 
 within_not_outside : (first last n : ℕ) → first ≤ n → n ≤ last → IsOutside first last n → ⊥
 within_not_outside first last n low high (inl below) = omega (arith, low, below)

@@ -1,4 +1,16 @@
 pub mod Common
+pub mod OpenCalls
+pub mod OpenLooks
+pub mod SparedTurns
+pub mod Meeting
+pub mod SparedRounds
+pub mod SparedOfAll
+pub mod EntrySpared
+pub mod SparedCycles
+pub mod SparedFast
+pub mod Spared
+pub mod SparedEntries
+pub mod SparedRuns
 pub mod ClientsSpelled
 pub mod RunSpelled
 pub mod RunPushed

@@ -6,7 +6,7 @@ use Rattle.af_base.specs.declared.event.ClientEvent.TheVariants as client
 use Rattle.af_cblk.specs.declared.view.ClientPart.{ClientPart}
 use Rattle.af_life.specs.Plays.{put_by}
 use Rattle.af_normal.specs.State.{setup_of as mixer_setup}
-use Rattle.af_rendering.specs.Leads.{Tells as TellsPushes}
+use Rattle.af_told_law.specs.Leads.{Tells as TellsPushes}
 use Rattle.af_play_law.specs.RoundPlayed.{HearsForeseen, PlayStands, RoundPlayed}
 use Rattle.af_play_law.proofs.BeforeTurn.{cycles_commands}
 use Rattle.af_play_law.proofs.Cycled.{CyclesAre}

@@ -70,9 +70,9 @@ pub use Rattle.af_normal.specs.Mixing.{stream_at}
 pub use Rattle.af_normal.specs.State.{NormalState, kept_of}
 pub use Rattle.af_normal.specs.TurnMade.{TurnMade, answer_of}
 pub use Rattle.af_party.specs.Parties.{PartyState, track_of}
-pub use Rattle.af_rendering.proofs.QueueSeen.{SawUpTo, few_acked, few_seen}
-pub use Rattle.af_rendering.proofs.Quiet.{IsQuiet, new_quiet, turn_quiet}
-pub use Rattle.af_rendering.specs.Leads.{HasLearnt, InStep, LeadAway, Leads}
+pub use Rattle.af_told_law.proofs.QueueSeen.{SawUpTo, few_acked, few_seen}
+pub use Rattle.af_told_law.proofs.Quiet.{turn_quiet}
+pub use Rattle.af_told_law.specs.Leads.{HasLearnt, InStep, LeadAway, Leads}
 pub use Rattle.af_runs.proofs.Basics.{calls-entries, cycle_entries, shown_if}
 pub use Rattle.af_runs.proofs.RunGrows.{AreFewer}
 pub use Rattle.af_runs.specs.Blocks.{BlockTold, Marks, client_list, hand_does, is_tame, listed, server_list}
@@ -102,7 +102,7 @@ pub use Rattle.af_told_law.proofs.MarkedRuns.{new_marked, round_marked}
 pub use Rattle.af_told_law.proofs.NewTold.{new_told, no_deeds}
 pub use Rattle.af_told_law.proofs.QueueLooks.{IsSane, history_sane, point_of}
 pub use Rattle.af_told_law.proofs.TameRuns.{met_marked, small_told}
-pub use Rattle.af_told_law.specs.Between.{StandsBefore, StandsBetween}
+pub use Rattle.af_told_law.specs.Between.{IsQuiet, StandsBefore, StandsBetween}
 pub use Rattle.af_told_law.specs.Deeds.{Deeds, GoOn, MetTold, SawOwnBy, SawOwnOf, commands_by, deeds_met, done_on, met_deed, stream_by}
 pub use Rattle.af_told_law.specs.Marked.{IsMarkedRun, IsRoundMarked, IsTrackMarked}
 pub use Rattle.af_told_law.specs.MixLaws.{TookCounted, entry_told}

@@ -3,7 +3,7 @@ use Rattle.std.proofs.Common.{◌≡◌, ◌⊎◌, ⊎_elim, ℕ, suc, ◌+◌,
 use Rattle.af_play_law.proofs.Common.{AllByRecursion, Carried, CycleEntry, CyclesOn, Deeds, EntrySeen, FirstLate, HasStateHistory, HeardAlike, IsDone, IsLegal, LegalTurnBy, Links, Load, Marks, MatchBool, MixerState, NormalKept, NormalState, Outside, ReaderEvent, Report, RoundSeen, Run, SawOwnBy, Session, SessionState, Setting, Setup, TrackKept, Turn, TurnFound, TurnMade, TurnPlayed, TurnShown, WriterEvent, acked_len, after_ack, answer_of, before_same, before_turn, beyond_is, calls-entries, early_count, early_of, found_in, is_early, commands_exit, is_home, kept_of, late_of, load_of, max, most_cycles, prefix_len, report_at, report_of, reports_stored, setup_of, slot_number, stores, take-append-drop, track_at, turn_of, with_calls, with_cycles, with_turn}
 use Rattle.std.proofs.lemmas.Grind.{fold-append}
 use Rattle.af_normal.specs.State.{setup_of as mixer_setup}
-use Rattle.af_rendering.specs.Leads.{Tells as TellsPushes}
+use Rattle.af_told_law.specs.Leads.{Tells as TellsPushes}
 use Rattle.af_play_law.specs.Loads.{LoadsOneOf, MetLast}
 use Rattle.af_play_law.specs.RoundPlayed.{HearsForeseen, PlayStands, ReportsCount, RoundPlayed}
 use Rattle.af_play_law.proofs.AfterTurn.{finds, front_shown}

@@ -1,11 +1,11 @@
 -- A play whose parties have all ended is told by its journal alone.
 use Rattle.std.proofs.Common.{◌≡◌, inl, ℕ, ◌≤◌, ◌&&◌, true, false, true≢false, List, [], ◌∷◌, length, refl, sym, ap, subst, ◌∙◌, arith}
-use Rattle.af_play_law.proofs.Common.{EndsHome, Frame, HasStateHistory, IsQuiet, Marks, MutatorEvent, NormalKept, ObserverEvent, PartyState, RoundSeen, Run, ServerEvent, ServerState, Session, SessionState, StandsBetween, Tells, TookCounted, and_parts, carried_new, frames_taken, kept_of, known_new, list_all, marks_of, new_ends, new_marked, new_quiet, new_run, new_told, no_deeds, run_from, script_setup, session_of, setup_of}
+use Rattle.af_play_law.proofs.Common.{EndsHome, Frame, Marks, NormalKept, PartyState, RoundSeen, Run, ServerEvent, Session, SessionState, Tells, TookCounted, and_parts, carried_new, frames_taken, kept_of, known_new, list_all, marks_of, new_ends, new_marked, new_run, new_told, no_deeds, run_from, script_setup, session_of, setup_of}
 use Rattle.af_enough_law.proofs.AllEnd.{rounds_end}
 use Rattle.af_enough_law.proofs.EndWords.{BothEnded}
 use Rattle.af_model.specs.JournalForm.{IsJournal}
 use Rattle.af_script.specs.Data.{ScriptData}
-use Rattle.af_rendering.proofs.SparedEntries.{entries_first}
+use Rattle.af_told_law.proofs.FirstSteps.{stands_first}
 use Rattle.af_session.specs.NewSession.{IsNewSession}
 use Rattle.af_engine.specs.Shares.{SharedState}
 use Rattle.af_told_law.proofs.PipeCells.{cells_new}
@@ -23,15 +23,6 @@ module _ (script : ScriptData) (files : List (List Frame)) (shared : SharedState
   told : Tells s (new_run s) no_deeds x
   told = new_told script files shared x new
 
-  stands_first : StandsBetween x
-  stands_first = let first = entries_first script shared x new in record {
-    step = first.step;
-    history = subst (λ (y : List (MutatorEvent ServerState) × List (ObserverEvent ServerState)). HasStateHistory x.normal.mutator.past.first y.0 y.1) (λ j. (sym new.ends.mutator.silent.2 j, sym new.ends.observer.0.silent.1 j))
-        (record { order = []; is_legal = tt; of_one = refl; of_two = refl });
-    leads = first.leads;
-    quiet = subst IsQuiet (sym new.kept) (new_quiet (script_setup script));
-  }
-
   took_none : TookCounted x.fast
   took_none = ap (λ (l : List ℕ). length l) told.shared.taken ∙ sym (ap (λ (l : List ServerEvent). frames_taken l) told.shared.takes)
 
@@ -39,7 +30,7 @@ module _ (script : ScriptData) (files : List (List Frame)) (shared : SharedState
   holds_first marks = record {
     stands = record {
       told = told;
-      stands = stands_first;
+      stands = stands_first script shared x new;
       known = known_new script files shared x new;
       report = inl refl;
       took = took_none;

@@ -2,7 +2,7 @@
 use Rattle.std.proofs.Common.{◌≡◌, ℕ, suc, ◌+◌, ◌<◌, ◌≤◌, nat_le, Bool, true, false, if◌then◌else◌, take, drop, List, [], ◌∷◌, ◌++◌, length, append-nil, append_assoc, refl, sym, ap, subst, ◌∙◌, arith}
 use Rattle.af_play_law.proofs.Common.{EndsMet, EntrySeen, FastState, FindsLast, HasStateHistory, IsInOrder as IsFastInOrder, Links, MixerState, Observes, Pushes, ReaderSide, SeesTaken, ServerState, SessionState, StandsBetween, StreamNames, leb-false, leb-true, prefix_len}
 use Rattle.af_model.specs.declared.states.ObserverEvent.TheVariants as observer
-use Rattle.af_rendering.specs.Leads.{Tells}
+use Rattle.af_told_law.specs.Leads.{Tells}
 use Rattle.af_play_law.specs.Polls.{GrowsByTurn, Polled}
 use Rattle.af_play_law.proofs.Cycled.{CyclesAre, OneAdded, chain_grows}
 use Rattle.af_play_law.proofs.CyclesGrow.{EndsGrow, grow_both, mix_grows, once_grows}

@@ -2,7 +2,7 @@
 use Rattle.std.proofs.Common.{◌≡◌, ℕ, ◌+◌, ◌<◌, false, true, [], ◌∷◌, ◌++◌, append_assoc, Option, Some, None, sym, ap, subst, ◌∙◌, arith}
 use Rattle.af_play_law.proofs.Common.{Adopts, FastState, FindsLast, HasStateHistory, IsSane, MixerState, New, NormalState, Nothing, Observes, Poll, Polls, Pushes, Same, ServerState, StreamNames, TakesIt, WasPolled, acknowledged, false_from_ne_true, history_sane, is_over, items_sent, mutated, mutated_by, observed, point_of, sees_same, took}
 use Rattle.af_model.specs.declared.states.ObserverEvent.TheVariants as observer
-use Rattle.af_rendering.specs.Leads.{Tells}
+use Rattle.af_told_law.specs.Leads.{Tells}
 use Rattle.af_play_law.specs.Polls.{FindsLastOf, Items, Polled, Pushed}
 use Rattle.af_play_law.proofs.QueueGoesOn.{AllOf, all_go_on}
 use Rattle.af_play_law.proofs.RoundQueue.{finds_last_of}

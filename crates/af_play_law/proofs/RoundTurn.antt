@@ -4,8 +4,8 @@ use Rattle.af_play_law.proofs.Common.{AreTogether, Deeds, GoOn, IsLegal, Leads, 
 use Rattle.af_model.specs.declared.states.MutatorEvent.TheVariants as mutator
 use Rattle.af_normal.specs.Order.{IsInOrder as IsNormalInOrder}
 use Rattle.af_normal.specs.State.{setup_of as mixer_setup}
-use Rattle.af_rendering.specs.Leads.{Tells as TellsPushes}
-use Rattle.af_rendering.proofs.NormalSteps.{turn_same, turn_tells, turned_leads}
+use Rattle.af_told_law.specs.Leads.{Tells as TellsPushes}
+use Rattle.af_told_law.proofs.NormalSteps.{turn_same, turn_tells, turned_leads}
 use Rattle.af_told_law.proofs.NormalGoes.{turn_leaves}
 use Rattle.af_told_law.proofs.NormalRound.{known_now, legal_now, tells_turned}
 use Rattle.af_told_law.proofs.PartsTold.{parts_told}

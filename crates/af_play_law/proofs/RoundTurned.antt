@@ -3,7 +3,7 @@ use Rattle.std.proofs.Common.{◌≡◌, ◌⊎◌, inl, inr, ⊎_elim, ℕ, ◌
 use Rattle.af_play_law.proofs.Common.{Ack, Adopts, EndsMet, FastState, FindsLast, HasStateHistory, HasLearnt, MixerState, NormalState, ObserverPoint, Polls, Pushes, SawNext, SawUpTo, ServerState, SessionState, StandsBetween, StreamNames, add_one, cases_lt, few_seen, fold-append, is_over, is_push, legal, list_any, mutated, next, observed, observer_next, observer_start, start_of_queue}
 use Rattle.af_model.specs.declared.states.MutatorEvent.TheVariants as mutator
 use Rattle.af_model.specs.declared.states.ObserverEvent.TheVariants as observer
-use Rattle.af_rendering.specs.Leads.{Tells}
+use Rattle.af_told_law.specs.Leads.{Tells}
 use Rattle.af_play_law.specs.Polls.{ComesBehind, GrowsByTurn, Items, Polled, Pushed}
 use Rattle.af_play_law.proofs.CutBehind.{cut_behind}
 use Rattle.af_play_law.proofs.PollsAt.{looks_at}

@@ -4,8 +4,8 @@ use Rattle.af_play_law.proofs.Common.{Carried, Deeds, FastState, HasStateHistory
 use Rattle.af_model.specs.declared.states.MutatorEvent.TheVariants as mutator
 use Rattle.af_model.specs.declared.states.ObserverEvent.TheVariants as observer
 use Rattle.af_normal.specs.State.{setup_of}
-use Rattle.af_rendering.specs.Leads.{Tells as TellsPushes}
-use Rattle.af_rendering.proofs.QueueSteps.{learnt_by, step_met, tells_met}
+use Rattle.af_told_law.specs.Leads.{Tells as TellsPushes}
+use Rattle.af_told_law.proofs.QueueSteps.{learnt_by, step_met, tells_met}
 use Rattle.af_session.specs.Rounds as parties
 use Rattle.af_play_law.specs.RoundPlayed.{HearsForeseen, PlayStands, RoundPlayed}
 use Rattle.af_play_law.specs.Rounds.{RoundStands, RoundsAreTold}

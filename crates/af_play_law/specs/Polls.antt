@@ -9,7 +9,7 @@ use Rattle.af_model.specs.declared.states.ObserverEvent.TheVariants as observer
 use Rattle.af_model.specs.StateQueue.{HasStateHistory, mutated}
 use Rattle.af_server.specs.Order.{ServerState}
 use Rattle.af_stateq.specs.Laws.{is_push}
-use Rattle.af_rendering.specs.Leads.{HasLearnt}
+use Rattle.af_told_law.specs.Leads.{HasLearnt}
 
 -- the events of the queue's mutator, those of its observer, and the items that go with a state
 abbrev pub Pushed : Type 0

@@ -1,5 +1,5 @@
 -- The names of other crates that the proofs of this one cite, passed on from one place. Declares nothing.
-pub use Rattle.af_base.proofs.Basics.{both_true, no, on_ok, or_true, zip_long}
+pub use Rattle.af_base.proofs.Basics.{no, on_ok, or_true, zip_long}
 pub use Rattle.af_base.specs.Log.{Logged}
 pub use Rattle.af_base.specs.Turn.{Turn, turn_of}
 pub use Rattle.af_base.specs.declared.event.ClientCall.{ClientCall}
@@ -31,22 +31,20 @@ pub use Rattle.af_model.specs.StateQueue.{HasStateHistory}
 pub use Rattle.af_model.specs.declared.states.MutatorEvent.{MutatorEvent}
 pub use Rattle.af_model.specs.declared.states.ObserverEvent.{ObserverEvent}
 pub use Rattle.af_normal.specs.State.{NormalState, kept_of, setup_of}
-pub use Rattle.af_party.specs.Parties.{PartyState, track_of}
+pub use Rattle.af_party.specs.Parties.{PartyState}
 pub use Rattle.af_play_law.specs.PlayRuns.{PlaysOn}
 pub use Rattle.af_rendering.proofs.Basics.{no_fault, other_error}
 pub use Rattle.af_rendering.proofs.FirstRound.{empty_first, frames_first, ready_first, silent_first}
 pub use Rattle.af_rendering.proofs.JournalSound.{dealt, journal_form, journal_sounds, journal_whole, same_entries}
 pub use Rattle.af_rendering.proofs.NotedRounds.{cause_never, cause_on, few_noted, left_whole, then_memory}
 pub use Rattle.af_rendering.proofs.Outgoing.{on_err, stays_at}
-pub use Rattle.af_rendering.proofs.Quiet.{IsQuiet, mutated_none, push_clean, turn_quiet}
+pub use Rattle.af_told_law.proofs.Quiet.{mutated_none, push_clean, turn_quiet}
+pub use Rattle.af_told_law.specs.Between.{IsQuiet}
 pub use Rattle.af_rendering.proofs.RoundForms.{AreNoted, Notes, noted_more, noted_none}
 pub use Rattle.af_rendering.proofs.ShownWhole.{AreInStep, in_step_met, in_step_new, places_first, released_few, steps_told, tally_first, tally_pushed}
-pub use Rattle.af_rendering.proofs.Spared.{spares_first, spares_noted, spares_told}
-pub use Rattle.af_rendering.specs.Hostile.{IsTame, SparesSoFar, is_spared_in_turn}
 pub use Rattle.af_rendering.specs.declared.rendering.Played.{Played}
 pub use Rattle.af_rendering.specs.declared.staging.Stage.{Stage}
 pub use Rattle.af_runs.specs.Blocks.{Marks}
-pub use Rattle.af_runs.specs.ClientTurns.{after_calls}
 pub use Rattle.af_runs.specs.LegalRuns.{IsCutRun, IsLegalRun, marks_of, session_of}
 pub use Rattle.af_runs.specs.Pcm.{journal_pcm}
 pub use Rattle.af_runs.specs.Runs.{new_run}
@@ -61,25 +59,24 @@ pub use Rattle.af_session.specs.Ends.{EndsState, ends_from}
 pub use Rattle.af_session.specs.NewSession.{IsNewSession}
 pub use Rattle.af_session.specs.Noted.{HasFrames, NotesFrames}
 pub use Rattle.af_session.specs.Rooms.{CarriesOn, HasPlacesAt, HasRoundRoom, IsReadyOn, KeepsRoom, KeepsSizes, KeepsSound, given_of}
-pub use Rattle.af_session.specs.Rounds.{Given, IsReady, end_party, file_at, ops_at, with_ends}
-pub use Rattle.af_session.specs.Shown.{shown_at, shown_in, summary_told, turn_in}
+pub use Rattle.af_session.specs.Rounds.{Given, IsReady, end_party, with_ends}
+pub use Rattle.af_session.specs.Shown.{shown_at, shown_in, summary_told}
 pub use Rattle.af_session.specs.Together.{SessionState}
 pub use Rattle.af_session.specs.declared.rig.Rig.{Rig}
 pub use Rattle.af_session.specs.declared.room.Room.{Room}
-pub use Rattle.af_side_by_side.proofs.ReadyOfAll.{zip_at}
 pub use Rattle.af_side_by_side.specs.Alone.{CyclesOn, CyclesOnce, FastTurned, most_cycles}
 pub use Rattle.af_side_by_side.specs.Logging.{BeginsLog, HasLogOf, IsLogOf, LoggingState, LogsPlay, TellsLog, count_refused, notes_kept}
 pub use Rattle.af_side_by_side.specs.SideBySide.{ClientPlayed, IsRoundOfAll, NormalPlayed, TurnPlayed, all_noted}
 pub use Rattle.af_stateq.specs.Laws.{polled_states, pushed_states}
 pub use Rattle.af_stateq.specs.Observes.{AreTold, Observes}
 pub use Rattle.af_tally.specs.Sound.{pcm_of}
-pub use Rattle.af_tally.specs.Summaries.{has_no_poke, nothing_shown}
+pub use Rattle.af_tally.specs.Summaries.{nothing_shown}
 pub use Rattle.af_tally.specs.Tallies.{IsTally, Tallied}
 pub use Rattle.af_told_law.proofs.LogMore.{GrowsBy, entries_grown, grows_none, grows_then, mix_grows}
 pub use Rattle.std.proofs.lemmas.Bool.{MatchBool-at_false, MatchBool-at_true, eqb-false, true_from_ne_false}
 pub use Rattle.std.proofs.lemmas.List.{length-append, length-drop, length-map, length-take}
 pub use Rattle.std.proofs.lemmas.List.Concat.{flat_map-cons}
-pub use Rattle.std.proofs.lemmas.Option.{get_or_from_slice_get, none-some, same_Some, slice_get-get_or, slice_get-map, slice_get_within}
+pub use Rattle.std.proofs.lemmas.Option.{get_or_from_slice_get, slice_get-map}
 pub use Rattle.std.specs.Bool.{MatchBool}
 pub use Rattle.std.specs.List.{AllByRecursion, list_all}
 pub use Rattle.std.specs.Prelude.{All, slice_index_or}

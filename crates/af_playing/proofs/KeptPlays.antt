@@ -1,6 +1,6 @@
 -- What a play keeps, by how it was answered.
 use Rattle.std.proofs.Common.{◌≡◌, ◌⊎◌, ℕ, Bool, true, false, List, Some, Result, Ok, Err, IfErr, IfOk, OnErr, OnOk, IsErrAnd, inl, inr, refl, sym, ap, subst, ◌∙◌}
-use Rattle.af_playing.proofs.Common.{EndsState, Files, Frame, HasCause, IsLegalRun, IsScript, JournalData, Played, RoundsNoted, ScriptData, SessionState, SetsFile, Stage, ends_from, journal_of, journal_pcm, journal_sounds, on_ok, pcm_of, spares_told, steps_told, summary_told}
+use Rattle.af_playing.proofs.Common.{EndsState, Files, Frame, HasCause, IsLegalRun, IsScript, JournalData, Played, RoundsNoted, ScriptData, SessionState, SetsFile, Stage, ends_from, journal_of, journal_pcm, journal_sounds, on_ok, pcm_of, steps_told, summary_told}
 use Rattle.af_audit.specs.Drained.{EachDrainedTrackReachedItsStop}
 use Rattle.af_audit.proofs.EmptiedTold.{pipe-is-emptied}
 use Rattle.af_audit.proofs.FatesTold.{frames-have-fates}
@@ -10,7 +10,7 @@ use Rattle.af_base.specs.declared.want.Memory.{Memory}
 use Rattle.af_playing.proofs.InTime.{never_cut_off}
 use Rattle.af_playing.specs.declared.answering.PlayFault.{PlayFault}
 use Rattle.af_playing.specs.declared.answering.PlayFault.TheVariants as fault
-use Rattle.af_playing.specs.PlayKept.{Answers, IsCutPlay, IsDonePlay, KeepsFiles, KeepsPlay, SparesOthers, TookFew}
+use Rattle.af_playing.specs.PlayKept.{Answers, IsCutPlay, IsDonePlay, KeepsFiles, KeepsPlay, TookFew}
 use Rattle.af_playing.specs.PlayedRuns.{AtLimit, HandedBack, HandsBackRun, HasStoreCause, KeepsPromises, LeavesRun, all_ended, is_limit}
 use Rattle.af_playing.specs.PlayedStages.{HasPlayed}
 use Rattle.af_playing.proofs.PlayCauses.{cause_behind}
@@ -27,7 +27,6 @@ module _ (script : ScriptData) (files : List (List Frame)) where
       record {
         done = tt;
         limit = off_limit {T = Played} (Err x) (IsCutPlay script files) never;
-        spared = off_limit {T = Played} (Err x) (SparesOthers script.frames) never;
         enough = (λ enough. off_limit {T = Played} (Err x) (λ (j : JournalData) (e : EndsState). ⊥) never);
       }
 
@@ -93,7 +92,6 @@ module _ (script : ScriptData) (files : List (List Frame)) (s : Stage) (r : Resu
     done = if_ok_three (λ (p : Played). HandsBackRun true script files p.journal p.ends) (λ (p : Played). IsLegalRun script files p.journal) (λ (p : Played). p.summary ≡ summary_told script.frames p.journal p.ends) (IsDonePlay script files) r
         (λ p back legal summary. record { played = back; promises = promises_kept script files is law p.journal legal; summary = summary }) played_on a.legal a.summary;
     limit = limit_two r (HandsBackRun false script files) (cut_by script files) (IsCutPlay script files) (λ journal ends back cut. record { played = back; cut_run = cut }) limited a.cut_run;
-    spared = handed_on (SparesOthers script.frames) (spares_told script.frames noted t.fast.log t.normal.mutator.past.events j (ends_from t) have.noted.whole refl refl have.noted.spared);
     enough = (λ enough. never_limited r (HandsBackRun false script files) (never_cut_off script files is enough) limited);
   }
 

@@ -14,7 +14,6 @@ pub mod StagesPlayed
 pub mod RoundsPlayed
 pub mod InTime
 pub mod KeptPlays
-pub mod SparedOfAll
 pub mod PlayedOn
 pub mod RoundsTold
 pub mod PlayLegal

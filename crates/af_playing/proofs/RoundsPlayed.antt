@@ -1,13 +1,12 @@
 -- What is so between two rounds of a play: before the first of them, after one more, and at the end.
 use Rattle.std.proofs.Common.{◌≡◌, ◌+◌, ◌-◌, ◌*◌, ◌<◌, ◌≤◌, ◌++◌, ◌∷◌, ℕ, List, [], false, true, length, append-nil, inr, refl, sym, ap, subst, ◌∙◌, arith}
-use Rattle.af_playing.proofs.Common.{AreLinksOf, AreNoted, CarriesOn, FastState, Files, Given, HasPlacesAt, HasRoundRoom, IsJournal, IsReady, IsReadyOn, IsRoundOfAll, IsTally, IsWhole, KeepsRoom, KeepsSizes, KeepsSound, LeavesFront, MixerState, NotesFrames, Rig, Room, RoundsNoted, ScriptData, SessionState, SparesSoFar, Stage, TrackSpec, all_noted, empty_first, frames_first, given_of, journal_of, length-append, noted_none, nothing_shown, pcm_of, places_first, ready_first, shown_at, spares_first, tally_first}
+use Rattle.af_playing.proofs.Common.{AreLinksOf, AreNoted, CarriesOn, FastState, Files, Given, HasPlacesAt, HasRoundRoom, IsJournal, IsReady, IsReadyOn, IsRoundOfAll, IsTally, IsWhole, KeepsRoom, KeepsSizes, KeepsSound, LeavesFront, MixerState, NotesFrames, Rig, Room, RoundsNoted, ScriptData, SessionState, Stage, TrackSpec, all_noted, empty_first, frames_first, given_of, journal_of, length-append, noted_none, nothing_shown, pcm_of, places_first, ready_first, shown_at, tally_first}
 use Rattle.af_base.specs.Roomy.{Roomy}
 use Rattle.af_playing.proofs.ExitSeen.{Knowing, round_knows}
 use Rattle.af_playing.proofs.GoingOn.{few_so_far, goes_further}
 use Rattle.af_playing.proofs.RoundsLeft.{IsGoing, going_first}
 use Rattle.af_playing.proofs.RoundsOfAll.{noted_of_all}
 use Rattle.af_playing.proofs.RunOfAll.{knowing_first, plays, run_of_more, run_of_none}
-use Rattle.af_playing.proofs.SparedOfAll.{spares_of_all}
 use Rattle.af_playing.proofs.StagesPlayed.{played_on}
 use Rattle.af_playing.specs.PlayedRuns.{GoesOn, LeavesRun, RunsOfAll, all_ended, is_full}
 use Rattle.af_playing.specs.PlayedStages.{HasPlayed, NotesRound}
@@ -25,7 +24,6 @@ pub record PlaysOn (script : ScriptData) (first : Stage) (rig : Rig) (noted : Ro
   pub tally : (state : FastState) → IsTally (shown_at state (length rig.tracks.now) noted.rounds t.fast) room.tally
   pub places : HasPlacesAt (length noted.rounds) t room.tally
   pub form : AreNoted (length rig.tracks.now) noted t.fast.log
-  pub spares : SparesSoFar noted.rounds t
   pub sizes : KeepsSizes first.parties.fast t.fast
   pub kept : KeepsRoom first.room room
 
@@ -95,7 +93,6 @@ module _ (script : ScriptData) (first : Stage) (new : IsNewStage script first) (
         tally = tally_first tracks was.fast first.room.tally log.0 new_tally;
         places = places_first was.fast.frames tracks (length was.clients) (length was.fast.log.entries) first.room.tally (sym ready.given.0) new_tally;
         form = noted_none tracks was.fast.log log.0 log.1;
-        spares = spares_first script first.shared was new.new;
         sizes = (refl, refl);
         kept = record { buffer = refl; bytes = refl; released = refl };
       })
@@ -150,9 +147,8 @@ module _ (script : ScriptData) (first : Stage) (new : IsNewStage script first) (
             let r = all_noted t t' in
             let more = room'.bytes.items in
             let order = so.ready.together.fast.0.room.entries.0 in
-            let next : IsReadyOn rig (i + 1) t' = done.carried.ready i so.ready in
             record {
-              ready = subst (λ (n : ℕ). IsReadyOn rig n t') (sym one_more) next;
+              ready = subst (λ (n : ℕ). IsReadyOn rig n t') (sym one_more) (done.carried.ready i so.ready);
               knowing = round_knows given t t' r more so.knowing done.round;
               few = (let few = few_rounds in omega (arith, one_more, few, so.sizes.1, cycles));
               going = subst (λ (n : ℕ). IsGoing n t') (sym one_more) (goes_further given i t t' r more so.knowing so.ready.together.fast.0.keeps.exited_is order goes so.going done.round);
@@ -160,7 +156,6 @@ module _ (script : ScriptData) (first : Stage) (new : IsNewStage script first) (
               tally = subst (λ (x : RoundsNoted). (state : FastState) → IsTally (shown_at state tracks x.rounds t'.fast) room'.tally) (sym notes) (λ state. done.carried.tally state tracks noted.rounds (so.tally state));
               places = subst (λ (n : ℕ). HasPlacesAt n t' room'.tally) (sym one_more) (done.carried.places i so.places);
               form = subst (λ (x : RoundsNoted). AreNoted tracks x t'.fast.log) (sym notes) (noted_of_all rig.links given i t so.ready r more t' done.round frames_noted noted so.form);
-              spares = subst (λ (x : RoundsNoted). SparesSoFar x.rounds t') (sym notes) (spares_of_all rig.links given i t so.ready t' next more r done.round noted.rounds so.spares);
               sizes = (done.carried.sizes.0 ∙ so.sizes.0, done.carried.sizes.1 ∙ so.sizes.1);
               kept = record { buffer = done.carried.kept.buffer ∙ so.kept.buffer; bytes = done.carried.kept.bytes ∙ so.kept.bytes; released = done.carried.kept.released ∙ so.kept.released };
             }
@@ -175,4 +170,4 @@ module _ (script : ScriptData) (first : Stage) (new : IsNewStage script first) (
       → HasPlayed script rig.files.now s
   has_played s so whole form over =
       played_on script first.shared first.parties new.new rig.files.now rig.links rig.tracks.now here s (so.kept.released ∙ new.room.released) script.cycles refl
-      (record { ready = so.ready; tracks = so.form.tracks_are; whole = whole; form = form; tally = so.tally; frames = so.sizes.0; spares = so.spares }) so.run over so.few
+      (record { ready = so.ready; tracks = so.form.tracks_are; whole = whole; form = form; tally = so.tally; frames = so.sizes.0 }) so.run over so.few

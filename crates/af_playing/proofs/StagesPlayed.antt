@@ -1,6 +1,6 @@
 -- What a stage is, once its rounds were played.
 use Rattle.std.proofs.Common.{◌≡◌, ◌≤◌, ℕ, List, [], length, false, true, sym, ap, subst, ◌∙◌}
-use Rattle.af_playing.proofs.Common.{Frame, Given, IsNewSession, Links, ScriptData, SessionState, SharedState, Stage, TrackSpec, frames_first, released_few, spares_noted}
+use Rattle.af_playing.proofs.Common.{Frame, Given, IsNewSession, Links, ScriptData, SessionState, SharedState, Stage, TrackSpec, frames_first, released_few}
 use Rattle.af_playing.specs.PlayedRuns.{RunsOfAll, all_ended, is_full}
 use Rattle.af_playing.specs.PlayedStages.{HasPlayed}
 use Rattle.af_playing.proofs.RoundsOfAll.{tally_of_all}
@@ -27,7 +27,6 @@ module _ (script : ScriptData) (shared : SharedState) (was : SessionState) (new 
           tally = tally_of_all script shared was new links given n s.rounds s.parties s.room.tally noted.ready ran noted.tracks noted.frames noted.tally;
           released = released_few links given n s.parties noted.ready;
           room = room;
-          spared = spares_noted script.frames s.rounds s.parties.fast.log s.parties.normal.mutator.past.events s.parties (sym noted.ready.given.0 ∙ sym noted.tracks) noted.spares;
         };
         frames = noted.frames ∙ frames_first script shared was new files;
         entries = noted.ready.together.fast.0.room.entries.0;

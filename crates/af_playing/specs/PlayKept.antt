@@ -16,8 +16,7 @@ use Rattle.af_rendering.specs.declared.rendering.Played.{Played}
 use Rattle.af_rendering.specs.declared.staging.Stage.{Stage}
 use Rattle.af_session.specs.Ends.{EndsState, ends_from}
 use Rattle.af_side_by_side.specs.Logging.{IsLogOf, LoggingState, TellsLog}
-use Rattle.af_rendering.specs.Hostile.{PokesSpareOthers}
-use Rattle.af_playing.specs.PlayedRuns.{AtFault, AtLimit, HandedBack, HandsBackRun, KeepsPromises, LeavesRun, all_ended}
+use Rattle.af_playing.specs.PlayedRuns.{AtFault, AtLimit, HandsBackRun, KeepsPromises, LeavesRun, all_ended}
 use Rattle.af_session.specs.Shown.{shown_by, summary_told}
 use Rattle.af_tally.specs.Steps.{AreFew}
 
@@ -45,19 +44,14 @@ pub record IsCutPlay (script : ScriptData) (files : List (List Frame)) (journal 
   pub played : HandsBackRun false script files journal ends
   pub cut_run : IsCutRun script files journal
 
--- each track that nobody poked is spared in what is handed back
-abbrev pub SparesOthers : ℕ → JournalData → EndsState → Type 0
-SparesOthers frames journal ends = PokesSpareOthers (shown_by frames journal ends.normal.mutator.past.events)
-
 -- these are the steps of the cycles of the journal, one after the other, each with those of its note, and none took more than it may
 abbrev pub TookFew : ℕ → List (ℕ × ℕ) → JournalData → EndsState → Type 0
 TookFew frames steps journal ends = AreFew (shown_by frames journal ends.normal.mutator.past.events) steps
 
--- All that is promised of a play's answer: of one that is done, of one that was cut off, of the tracks that nobody poked in both, and that a script with enough cycles is never cut off
+-- All that is promised of a play's answer: of one that is done, of one that was cut off, and that a script with enough cycles is never cut off
 pub record KeepsPlay (script : ScriptData) (files : List (List Frame)) (result : Result Played PlayFault) : Type 0 where
   pub done : IfOk result (IsDonePlay script files)
   pub limit : IfErr result (AtLimit (IsCutPlay script files))
-  pub spared : HandedBack (SparesOthers script.frames) result
   pub enough : HasEnoughCycles script → IfErr result (AtLimit (λ journal ends. ⊥))
 
 -- ## What is promised of its file

@@ -5,7 +5,7 @@ ghost use Rattle.af_playing.specs.declared.answering.PlayFault.TheVariants.{Memo
 ghost use Rattle.af_playing.specs.InTime.{EndsInTime};
 ghost use Rattle.af_playing.specs.PlayedRuns.{AtLimit, HandedBack, HasStoreCause};
 ghost use Rattle.af_playing.specs.Pieces.{given_by};
-ghost use Rattle.af_playing.specs.PlayKept.{AppendsLogOfPlay, IsCutPlay, IsDonePlay, KeepsFiles, KeepsPlay, SparesOthers, TellsLogOf, TookFew};
+ghost use Rattle.af_playing.specs.PlayKept.{AppendsLogOfPlay, IsCutPlay, IsDonePlay, KeepsFiles, KeepsPlay, TellsLogOf, TookFew};
 ghost use Rattle.af_rendering.specs.Rendered.{HaveFiles};
 ghost use Rattle.af_side_by_side.specs.Logging.{BeginsLog, HasLogOf};
 
@@ -57,7 +57,7 @@ fn play_with<R: Threads + Sync, S: Store, G: Gate>(
 
 /// Plays a script in rounds. In each round every party that has not ended makes one turn: each client, the normal mixer, and the fast mixer, which makes sixteen cycles, or fewer after one that isn't mixed. They make them at the same time, on as many threads as the gate says at most, if threads can be made. Then all parties meet. A party's turn begins at the gate, by the party's number: a client has the number of its track, and the mixers' numbers come behind those. The sound goes to the file of the piece, round by round. All blocks, logs and mixers are made before the file is; the rounds are noted as they are played. There are at most as many rounds as the script has cycles.
 ///
-/// Whatever the threads did, what was played is a run of the script and its files, of rounds of all parties, whose journal is handed back (`HandsBackRun`). Ok says that all parties have ended (`done`), CycleLimit that the log is full and some party has not (`limit`); so after each round but the last some party goes on and the log has room. What the journal records of the parties that are handed back with it, and that the summary is that of the journal alone, are laws of af_parties_law (`what_a_play_hands_back_records_its_run`, `a_play_is_told_alone`). Whatever clients stored in their words, each track on whose blocks nothing was poked is spared (`spared`): no call of its client was answered Corrupt, and no look of the normal mixer at its blocks was Shut. If the store shows its files, the file is the sound of the journal; after a fault no file has changed, or the file holds a front of the sound of some first rounds (`files`). `steps` gets the word steps that the cycles of the journal took, one after the other: each at most `(m + 1) * frames + 7 * m + 6` with m tracks in its state, and its note in a log at most ten.
+/// Whatever the threads did, what was played is a run of the script and its files, of rounds of all parties, whose journal is handed back (`HandsBackRun`). Ok says that all parties have ended (`done`), CycleLimit that the log is full and some party has not (`limit`); so after each round but the last some party goes on and the log has room. What the journal records of the parties that are handed back with it, that the summary is that of the journal alone, and that each track is spared on whose blocks nothing was poked, are laws of af_parties_law (`what_a_play_hands_back_records_its_run`, `a_play_is_told_alone`, `a_play_spares_what_nobody_poked`). If the store shows its files, the file is the sound of the journal; after a fault no file has changed, or the file holds a front of the sound of some first rounds (`files`). `steps` gets the word steps that the cycles of the journal took, one after the other: each at most `(m + 1) * frames + 7 * m + 6` with m tracks in its state, and its note in a log at most ten.
 ///
 /// By itself, whoever made it, the journal of Ok keeps the promises of a play that is done (`KeepsPromises`): it is that of a legal run of the script and its files, in which each frame that a client without a poke released was mixed once, in its place, was discarded by one flush that was noticed, or is still queued; nothing of such a track was found shut or corrupt; a track that is reported drained has reached the count of its last stop, at which its client had released so much; and what a client releases after it saw a START settled is discarded by a later flush alone. All that the normal mixer put into the pipe was taken from it and mixed. The journal after CycleLimit is that of a cut run, and CycleLimit never comes to a script whose tracks play through and whose cycles are enough by the rule (`enough`): whatever its threads do, its rounds can't come to the end of the log with a party still going (`in_time`), so what was played to its end is Ok. That the journal of Ok is legal is a law on plays, whatever the threads did: nothing judges that journal. The journal of CycleLimit is judged before it is handed back, so only if the script hasn't enough cycles. After such a play Memory may also stand for a journal that was judged not to be that of a cut run, or that is longer than the judge counts (131,072 turns of the normal mixer). No play has come to either. In all other cases Memory says that an allocation was refused. Store says that the store failed, and comes exactly if its count of faults rose (`cause`).
 pub fn play<R: Threads + Sync, S: Store, G: Gate>(
@@ -71,7 +71,6 @@ pub fn play<R: Threads + Sync, S: Store, G: Gate>(
     requires { HaveFiles (given_by piece.now) }
     ensures done { IfOk result (IsDonePlay piece.now.script.now piece.now.files.now) }
     ensures limit { IfErr result (AtLimit (IsCutPlay piece.now.script.now piece.now.files.now)) }
-    ensures spared { HandedBack (SparesOthers piece.now.script.now.frames) result }
     ensures enough { HasEnoughCycles piece.now.script.now → IfErr result (AtLimit (λ journal ends. ⊥)) }
     ensures in_time { EndsInTime piece.now.script.now piece.now.files.now }
     ensures files { S.told store.old → KeepsFiles piece.now.script.now piece.now.files.now piece.now.name.now (S.files store.old) (S.files store.new) result }
@@ -132,7 +131,6 @@ pub fn play_logged<R: Threads + Sync, S: Store, G: Gate>(
     requires room { (1 ≤ piece.now.room) × (piece.now.room ≤ 1024) }
     ensures done { IfOk result (IsDonePlay piece.now.script.now piece.now.files.now) }
     ensures limit { IfErr result (AtLimit (IsCutPlay piece.now.script.now piece.now.files.now)) }
-    ensures spared { HandedBack (SparesOthers piece.now.script.now.frames) result }
     ensures enough { HasEnoughCycles piece.now.script.now → IfErr result (AtLimit (λ journal ends. ⊥)) }
     ensures in_time { EndsInTime piece.now.script.now piece.now.files.now }
     ensures files { S.told store.old → KeepsFiles piece.now.script.now piece.now.files.now piece.now.name.now (S.files store.old) (S.files store.new) result }

@@ -1,19 +1,16 @@
 -- What stands between two rounds stands again after a round of a client, a turn of the normal mixer, and a round in which nothing is done.
 use Rattle.std.proofs.Common.{◌≡◌, ℕ, ◌<◌, ◌≤◌, Bool, true, false, MatchBool, List, [], ◌∷◌, ◌++◌, length, refl, sym, ap, subst, ◌∙◌, arith}
-use Rattle.af_render_law.proofs.Common.{AreTogether, FastState, Given, HasStateHistory, InStep, IsInOrder, IsLegal, IsQuiet, IsRound, Leads, Links, Met, MixerState, NormalKept, NormalState, NormalTurned, Outside, Polls, Pushes, RoundNoted, ScriptData, ServerState, SessionState, StandsBetween, StreamNames, Turn, ends_keep, kept_of, learnt, learnt_by, new_quiet, normal_round, observed, script_setup, step_met, still_round, tells_met, turn_of, turn_quiet}
+use Rattle.af_render_law.proofs.Common.{AreTogether, FastState, Given, HasStateHistory, InStep, IsInOrder, IsLegal, IsQuiet, IsRound, Leads, Links, Met, MixerState, NormalKept, NormalState, NormalTurned, Outside, Polls, Pushes, RoundNoted, ServerState, SessionState, StandsBetween, StreamNames, Turn, ends_keep, kept_of, learnt, learnt_by, normal_round, observed, step_met, still_round, tells_met, turn_of, turn_quiet}
 use Rattle.af_model.specs.declared.states.MutatorEvent.{MutatorEvent}
 use Rattle.af_model.specs.declared.states.MutatorEvent.TheVariants as mutator
 use Rattle.af_model.specs.declared.states.ObserverEvent.{ObserverEvent}
 use Rattle.af_model.specs.declared.states.ObserverEvent.TheVariants as observer
 use Rattle.af_normal.specs.State.{setup_of}
 use Rattle.af_script.specs.declared.op.TurnSpec.TheVariants as spec
-use Rattle.af_rendering.specs.Leads.{Tells}
-use Rattle.af_session.specs.NewSession.{IsNewSession}
+use Rattle.af_told_law.specs.Leads.{Tells}
 use Rattle.af_session.specs.Rounds.{with_ends}
-use Rattle.af_engine.specs.Shares.{SharedState}
-use Rattle.af_rendering.proofs.NormalSteps.{turn_same, turn_tells, turned_leads}
-use Rattle.af_rendering.proofs.QueueSeen.{SawUpTo, few_acked, few_seen}
-use Rattle.af_rendering.proofs.SparedEntries.{entries_first}
+use Rattle.af_told_law.proofs.NormalSteps.{turn_same, turn_tells, turned_leads}
+use Rattle.af_told_law.proofs.QueueSeen.{SawUpTo, few_acked, few_seen}
 
 -- a turn of the normal mixer leaves what is quiet so
 pub quiet_turned : (o : Outside) (x n : NormalState) → IsLegal o x n → IsQuiet (kept_of x) → IsQuiet (kept_of n)
@@ -113,18 +110,6 @@ module _ (g : Given) (s : SessionState) (r : RoundNoted) (bytes : List ℕ) (t :
           (subst (λ (y : Polls ServerState StreamNames). 0 < turned.normal.mutator.past.number → y.number ≡ turned.normal.mutator.past.number → y.state ≡ turned.normal.mutator.past.last) (sym past) same)
           (subst (λ (y : Polls ServerState StreamNames). Leads y.state (kept_of turned.normal)) (sym past) leads)
           (quiet_turned one.outside s.normal turned.normal one.legal before.quiet)
-
--- ## At the start
-
-module _ (script : ScriptData) (shared : SharedState) (s : SessionState) (new : IsNewSession script shared s) where
-  pub stands_first : StandsBetween s
-  stands_first = let first = entries_first script shared s new in record {
-    step = first.step;
-    history = subst (λ (y : List (MutatorEvent ServerState) × List (ObserverEvent ServerState)). HasStateHistory s.normal.mutator.past.first y.0 y.1) (λ j. (sym new.ends.mutator.silent.2 j, sym new.ends.observer.0.silent.1 j))
-        (record { order = []; is_legal = tt; of_one = refl; of_two = refl });
-    leads = first.leads;
-    quiet = subst IsQuiet (sym new.kept) (new_quiet (script_setup script));
-  }
 
 -- ## A turn of the normal mixer before the meetings
 

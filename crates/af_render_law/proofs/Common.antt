@@ -60,12 +60,12 @@ pub use Rattle.af_normal.specs.Mixing.{stream_at}
 pub use Rattle.af_normal.specs.State.{NormalState, kept_of}
 pub use Rattle.af_normal.specs.TurnMade.{TurnMade, answer_of}
 pub use Rattle.af_party.specs.Parties.{PartyState}
-pub use Rattle.af_rendering.proofs.MetOpen.{clients_ended}
-pub use Rattle.af_rendering.proofs.QueueSteps.{Finds, finds, finds_none, learnt_by, step_met, tells_met}
-pub use Rattle.af_rendering.proofs.Quiet.{IsQuiet, new_quiet, turn_quiet}
+pub use Rattle.af_told_law.proofs.MetOpen.{clients_ended}
+pub use Rattle.af_told_law.proofs.QueueSteps.{Finds, finds, finds_none, learnt_by, step_met, tells_met}
+pub use Rattle.af_told_law.proofs.Quiet.{turn_quiet}
 pub use Rattle.af_rendering.proofs.RoundForms.{round_notes}
 pub use Rattle.af_rendering.specs.Alone.{shown_from, summary_by}
-pub use Rattle.af_rendering.specs.Leads.{InStep, LeadAway, LeadLent, Leads}
+pub use Rattle.af_told_law.specs.Leads.{InStep, LeadAway, LeadLent, Leads}
 pub use Rattle.af_rendering.specs.Rendered.{HandsBack, Renders}
 pub use Rattle.af_runs.specs.Blocks.{BlockTold, HasBlockHistory, Marks, client_list, is_tame, listed, meets, server_list}
 pub use Rattle.af_runs.specs.ClientTurns.{LegalClientTurn, Side, Track, after_calls}
@@ -76,7 +76,7 @@ pub use Rattle.af_runs.specs.LegalRuns.{marks_of, session_of}
 pub use Rattle.af_runs.specs.Rounds.{HaveHistories, LegalEntry, LegalTurnIn, loaded, turned}
 pub use Rattle.af_runs.specs.Runs.{Run, TrackTold, called_in_turn, calls_in, changed_from, each_track, fast_ended, found_before, mixed_track, new_run, new_told_track, no_track, pipe_cells, played, report_of, client_side, sides_of, state_for, stream_met, takes_part, told_at, track_met, turned_track, with_side}
 unfoldable pub use Rattle.af_runs.specs.Runs.{met, with_ends, with_load, with_mix, with_poll, with_turn}
-pub use Rattle.af_runs.specs.Sessions.{Session, cycle_frames, no_spec, script_setup, setup_of, track_count}
+pub use Rattle.af_runs.specs.Sessions.{Session, cycle_frames, no_spec, setup_of, track_count}
 pub use Rattle.af_runs.specs.TurnRuns.{AreTurns, IsMadeBy, IsTurnRun, LegalAlone, OnlyCalls, calls_alone, cycle_alone, made_alone, met_alone, run_alone, turn_alone}
 pub use Rattle.af_script.specs.Data.{ScriptData}
 pub use Rattle.af_script.specs.Form.{IsScript, IsTrack, IsTurn}
@@ -103,7 +103,7 @@ pub use Rattle.af_told_law.proofs.PartsTold.{parts_told}
 pub use Rattle.af_told_law.proofs.SlotHeld.{found_carries, is_held}
 pub use Rattle.af_told_law.proofs.SmallRuns.{new_small, round_small}
 pub use Rattle.af_told_law.proofs.TameRuns.{met_marked, mix_marked, poll_marked, small_told}
-pub use Rattle.af_told_law.specs.Between.{StandsBefore, StandsBetween}
+pub use Rattle.af_told_law.specs.Between.{IsQuiet, StandsBefore, StandsBetween}
 pub use Rattle.af_told_law.specs.Deeds.{Deeds, MetTold, SawOwnBy, SawOwnOf, deeds_met, done_on, met_deed, stream_by, tame_marks}
 pub use Rattle.af_told_law.specs.Marked.{AreRoundsMarked, IsMarkedRun, IsRoundMarked}
 pub use Rattle.af_told_law.specs.MixLaws.{MixesAreTold, entry_told}

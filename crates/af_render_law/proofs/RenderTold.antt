@@ -6,7 +6,7 @@ use Rattle.af_judge.proofs.StatesRuns.{scales_of}
 use Rattle.af_render_law.specs.Aware.{KnowsAway}
 use Rattle.af_render_law.proofs.Chain.{AreCounted, FastTurnIsAStep, Holds, NormalTurnIsAStep}
 use Rattle.af_render_law.specs.Laws.{AreSteps, ToldBy}
-use Rattle.af_render_law.proofs.BetweenRounds.{stands_first}
+use Rattle.af_told_law.proofs.FirstSteps.{stands_first}
 use Rattle.af_render_law.proofs.InvalidKept.{invalid_new}
 use Rattle.af_told_law.proofs.NewTold.{new_told, no_deeds}
 use Rattle.af_told_law.proofs.PipeCells.{cells_new}

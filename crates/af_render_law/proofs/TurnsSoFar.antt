@@ -34,7 +34,7 @@ first_script n script form = record {
 
 -- ## How many entries the rounds have
 
-rounds_count : (g : Given) (turns : List TurnSpec) (s : SessionState) (rounds : List RoundNoted) (bytes : List ℕ) (t : SessionState) → IsTurnRun g turns s rounds bytes t → length s.fast.log.entries + cycles_of rounds ≡ length t.fast.log.entries
+pub rounds_count : (g : Given) (turns : List TurnSpec) (s : SessionState) (rounds : List RoundNoted) (bytes : List ℕ) (t : SessionState) → IsTurnRun g turns s rounds bytes t → length s.fast.log.entries + cycles_of rounds ≡ length t.fast.log.entries
 rounds_count g [] s rounds bytes t (none, silent, same) =
     let count : cycles_of rounds ≡ 0 = ap cycles_of none in
     let log : length t.fast.log.entries ≡ length s.fast.log.entries = ap (λ (x : SessionState). length x.fast.log.entries) same in

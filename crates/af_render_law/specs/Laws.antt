@@ -9,7 +9,7 @@ use Rattle.af_runs.specs.Rounds.{HaveHistories}
 use Rattle.af_runs.specs.Runs.{Run, found_before, with_ends}
 use Rattle.af_runs.specs.Sessions.{Session}
 use Rattle.af_runs.specs.TurnRuns.{IsMadeBy, met_alone}
-use Rattle.af_rendering.specs.Leads.{InStep, LeadAway}
+use Rattle.af_told_law.specs.Leads.{InStep, LeadAway}
 use Rattle.af_session.specs.Together.{SessionState}
 use Rattle.af_turn_law.specs.Acting.{FindsShutUnseen}
 use Rattle.af_told_law.specs.Tells.{Tells}

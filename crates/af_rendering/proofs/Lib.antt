@@ -1,6 +1,5 @@
 pub mod Common
 pub mod Basics
-pub mod Quiet
 pub mod RunMore
 pub mod Outgoing
 pub mod FirstRound
@@ -15,18 +14,3 @@ pub mod FilesGiven
 pub mod ShownWhole
 pub mod TurnsPlayed
 pub mod StagesRun
-pub mod OpenCalls
-pub mod OpenLooks
-pub mod OneTake
-pub mod MetOpen
-pub mod SparedTurns
-pub mod SparedRounds
-pub mod QueueSeen
-pub mod QueueSteps
-pub mod Leads
-pub mod NormalSteps
-pub mod EntrySpared
-pub mod SparedCycles
-pub mod SparedFast
-pub mod SparedEntries
-pub mod Spared

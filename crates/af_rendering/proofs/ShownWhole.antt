@@ -83,11 +83,11 @@ tally_pushed tracks rounds t y order step is =
 -- ## The journal
 
 -- the calls and the turns of the journal are those noted
-same_calls : (entries : List EntrySeen) (rounds : List RoundNoted) → map (λ (r : RoundSeen). r.calls) (rounds_seen entries rounds) ≡ map (λ (r : RoundNoted). r.calls) rounds
+pub same_calls : (entries : List EntrySeen) (rounds : List RoundNoted) → map (λ (r : RoundSeen). r.calls) (rounds_seen entries rounds) ≡ map (λ (r : RoundNoted). r.calls) rounds
 same_calls entries [] = refl
 same_calls entries (r ∷ rs) = ap (λ (l : List (List (List ClientCall))). r.calls ∷ l) (same_calls (drop r.cycles entries) rs)
 
-same_turns : (entries : List EntrySeen) (rounds : List RoundNoted) → map (λ (r : RoundSeen). r.turn) (rounds_seen entries rounds) ≡ map (λ (r : RoundNoted). r.turn) rounds
+pub same_turns : (entries : List EntrySeen) (rounds : List RoundNoted) → map (λ (r : RoundSeen). r.turn) (rounds_seen entries rounds) ≡ map (λ (r : RoundNoted). r.turn) rounds
 same_turns entries [] = refl
 same_turns entries (r ∷ rs) = ap (λ l. r.turn ∷ l) (same_turns (drop r.cycles entries) rs)
 

@@ -2,14 +2,10 @@
 use Rattle.std.proofs.Common.{◌≡◌, ℕ, List, [], Some, Result, Ok, Err, OnOk, length, sym, ap, subst, ◌∙◌}
 use Rattle.af_rendering.proofs.Common.{FastState, Files, Frame, Given, IsJournal, IsNewSession, IsReady, IsTally, IsWhole, Links, RoundsNoted, ScriptData, SessionState, SetsFile, SharedState, TrackSpec, TurnSpec, journal_of, pcm_of, shown_at}
 use Rattle.af_rendering.specs.declared.staging.Stage.{Stage}
-use Rattle.af_rendering.specs.FastSpared.{FastSparesSoFar}
-use Rattle.af_rendering.specs.Hostile.{SparesSoFar}
 use Rattle.af_rendering.specs.Rendered.{PlaysTurns, Runs}
 use Rattle.af_rendering.specs.Stages.{HasRendered, noted_as}
 use Rattle.af_rendering.proofs.FirstRound.{frames_first, rendered, silent_first}
 use Rattle.af_rendering.proofs.ShownWhole.{released_few, tally_end}
-use Rattle.af_rendering.proofs.Spared.{spares_noted}
-use Rattle.af_rendering.proofs.SparedEntries.{entries_end}
 
 -- the rounds of a stage were noted, as `n` rounds of these tracks and files, since the parties that it began with
 pub record NotedOn (links : Links) (g : Given) (n : ℕ) (was : SessionState) (s : Stage) : Type 0 where
@@ -19,18 +15,14 @@ pub record NotedOn (links : Links) (g : Given) (n : ℕ) (was : SessionState) (s
   pub form : IsJournal (journal_of s.rounds s.parties.fast.log)
   pub tally : (first : FastState) → IsTally (shown_at first (length g.tracks) s.rounds.rounds s.parties.fast) s.room.tally
   pub frames : s.parties.fast.frames ≡ was.fast.frames
-  pub spares : SparesSoFar s.rounds.rounds s.parties
 
 module _ (script : ScriptData) (shared : SharedState) (was : SessionState) (new : IsNewSession script shared was) (files : List (List Frame)) (links : Links) (tracks : List TrackSpec) (here : tracks ≡ script.tracks) (s : Stage) (room : s.room.released ≡ record { items = []; room = length script.tracks }) where
   abbrev given : Given
   given = record { tracks = tracks; files = files }
 
-  long : (n : ℕ) → NotedOn links given n was s → length s.parties.clients ≡ s.rounds.tracks
-  long n noted = sym noted.ready.given.0 ∙ sym noted.tracks
-
   -- a stage with all turns of the script noted has rendered it
-  rendered_on : (turns : List TurnSpec) → turns ≡ script.turns → NotedOn links given (length turns) was s → Runs given turns was s.rounds.rounds s.parties → FastSparesSoFar s.parties → HasRendered script files s
-  rendered_on turns are noted ran spares =
+  rendered_on : (turns : List TurnSpec) → turns ≡ script.turns → NotedOn links given (length turns) was s → Runs given turns was s.rounds.rounds s.parties → HasRendered script files s
+  rendered_on turns are noted ran =
       let n : ℕ = length turns in
       record {
         all = rendered script shared was new files script.turns s.rounds.rounds s.parties
@@ -43,9 +35,7 @@ module _ (script : ScriptData) (shared : SharedState) (was : SessionState) (new 
           tally = tally_end script shared was new links given n turns s.rounds s.parties s.room.tally noted.ready ran noted.tracks noted.frames noted.tally;
           released = released_few links given n s.parties noted.ready;
           room = room;
-          spared = spares_noted script.frames s.rounds s.parties.fast.log s.parties.normal.mutator.past.events s.parties (long n noted) noted.spares;
         };
-        entries = entries_end script shared was new links given n turns s.rounds s.parties noted.ready ran noted.tracks noted.spares spares;
       }
 
 -- ## A render, whose rounds are not noted
@@ -55,22 +45,21 @@ module _ (script : ScriptData) (shared : SharedState) (was : SessionState) (new 
   session = record { tracks = tracks; files = files }
 
   -- a stage as if the rounds had been noted on it
-  as_noted : (rounds : RoundsNoted) → IsReady links session (length turns) s.parties → PlaysTurns session turns was rounds s.parties s.room.tally → s.parties.fast.frames ≡ was.fast.frames → SparesSoFar [] was → NotedOn links session (length turns) was (noted_as rounds s)
-  as_noted rounds ready plays frames fresh = record {
+  as_noted : (rounds : RoundsNoted) → IsReady links session (length turns) s.parties → PlaysTurns session turns was rounds s.parties s.room.tally → s.parties.fast.frames ≡ was.fast.frames → NotedOn links session (length turns) was (noted_as rounds s)
+  as_noted rounds ready plays frames = record {
     ready = ready;
     tracks = plays.tracks;
     whole = plays.whole;
     form = plays.form;
     tally = plays.tally_is;
     frames = frames;
-    spares = plays.spares fresh;
   }
 
-  pub has_rendered : {T E : Type 0} (r : Result T E) → SparesSoFar [] was → OnOk r (IsReady links session (length turns) s.parties) → OnOk r ((rounds : RoundsNoted) × PlaysTurns session turns was rounds s.parties s.room.tally)
-      → OnOk r (s.parties.fast.frames ≡ was.fast.frames) → OnOk r (FastSparesSoFar s.parties) → OnOk r ((rounds : RoundsNoted) × HasRendered script files (noted_as rounds s))
-  has_rendered (Ok x) fresh ready plays frames spares =
-      (plays.0, rendered_on script shared was new files links tracks here (noted_as plays.0 s) room turns are (as_noted plays.0 ready plays.1 frames fresh) plays.1.runs spares)
-  has_rendered (Err e) fresh ready plays frames spares = tt
+  pub has_rendered : {T E : Type 0} (r : Result T E) → OnOk r (IsReady links session (length turns) s.parties) → OnOk r ((rounds : RoundsNoted) × PlaysTurns session turns was rounds s.parties s.room.tally)
+      → OnOk r (s.parties.fast.frames ≡ was.fast.frames) → OnOk r ((rounds : RoundsNoted) × HasRendered script files (noted_as rounds s))
+  has_rendered (Ok x) ready plays frames =
+      (plays.0, rendered_on script shared was new files links tracks here (noted_as plays.0 s) room turns are (as_noted plays.0 ready plays.1 frames) plays.1.runs)
+  has_rendered (Err e) ready plays frames = tt
 
 -- ## The file
 

@@ -2,13 +2,11 @@
 use Rattle.std.proofs.Common.{◌≡◌, ℕ, ◌+◌, ◌<◌, ◌^◌, All, List, [], ◌∷◌, ◌++◌, length, take, get_or, refl, arith}
 use Rattle.af_rendering.proofs.Common.{All-append, All-cons, All-nil, FastState, FitsEntry, FollowsRound, Given, IsFrame, IsReady, IsRound, IsTally, Links, NotesFrames, NotesNumbers, RoundNoted, RoundsNoted, SessionState, Tallied, TurnSpec, nothing_shown, pcm_of, round_told, shown_at}
 use Rattle.af_model.proofs.NumbersFit.{ranges_dealt}
-use Rattle.af_rendering.specs.Hostile.{SparesSoFar}
 use Rattle.af_rendering.specs.Rendered.{PlaysTurns, Runs}
 use Rattle.af_rendering.proofs.JournalSound.{journal_form, journal_whole}
 use Rattle.af_rendering.proofs.RoundForms.{AreNoted, noted_none, noted_round}
 use Rattle.af_rendering.proofs.RunMore.{run_more, run_none}
 use Rattle.af_rendering.proofs.ShownWhole.{tally_first}
-use Rattle.af_rendering.proofs.SparedRounds.{spares_round}
 
 -- the rounds of so many tracks
 abbrev pub noted_of : Given → List RoundNoted → RoundsNoted
@@ -20,7 +18,6 @@ pub record SoFar (g : Given) (turns : List TurnSpec) (s : SessionState) (rounds 
   pub tally_is : (first : FastState) → IsTally (shown_at first (length g.tracks) rounds t.fast) tally
   pub noted : AreNoted (length g.tracks) (noted_of g rounds) t.fast.log
   pub numbers : All NotesNumbers rounds
-  pub spares : SparesSoFar [] s → SparesSoFar rounds t
 
 -- no turns were played so far
 pub so_far_none : (g : Given) (s : SessionState) (tally : Tallied) → s.fast.log.entries ≡ [] → s.fast.log.frames ≡ [] → IsTally (nothing_shown s.fast.frames (length g.tracks)) tally → SoFar g [] s [] s tally
@@ -29,15 +26,14 @@ so_far_none g s tally entries frames is = record {
   tally_is = tally_first (length g.tracks) s.fast tally entries is;
   noted = noted_none (length g.tracks) s.fast.log entries frames;
   numbers = All-nil NotesNumbers;
-  spares = (λ new. new);
 }
 
 -- one more turn was played, whatever stands for a turn that isn't there
-pub so_far_more : (links : Links) (d : TurnSpec) (g : Given) (turns : List TurnSpec) (i : ℕ) (s m t : SessionState) (rounds : List RoundNoted) (before after : Tallied) → i < length turns → IsReady links g i m → IsReady links g (i + 1) t
+pub so_far_more : (links : Links) (d : TurnSpec) (g : Given) (turns : List TurnSpec) (i : ℕ) (s m t : SessionState) (rounds : List RoundNoted) (before after : Tallied) → i < length turns → IsReady links g i m
     → SoFar g (take i turns) s rounds m before → (added : List ℕ) → IsRound g (get_or turns i d) m (round_told (get_or turns i d) m t) added t → pcm_of s.fast.frames m.fast.log ++ added ≡ pcm_of s.fast.frames t.fast.log
     → NotesFrames (round_told (get_or turns i d) m t) → NotesNumbers (round_told (get_or turns i d) m t) → FollowsRound (round_told (get_or turns i d) m t) m.fast t.fast before after
     → SoFar g (take (i + 1) turns) s (rounds ++ round_told (get_or turns i d) m t ∷ []) t after
-so_far_more links d g turns i s m t rounds before after lt ready next far added round grown frames numbers follows =
+so_far_more links d g turns i s m t rounds before after lt ready far added round grown frames numbers follows =
     let turn = get_or turns i d in
     let r = round_told turn m t in
     record {
@@ -45,7 +41,6 @@ so_far_more links d g turns i s m t rounds before after lt ready next far added 
       tally_is = (λ first. follows first (length g.tracks) rounds (far.tally_is first));
       noted = noted_round links g i m ready turn r added t round frames (noted_of g rounds) far.noted;
       numbers = All-append NotesNumbers rounds (r ∷ []) far.numbers (All-cons NotesNumbers r [] numbers (All-nil NotesNumbers));
-      spares = (λ new. spares_round links g i m ready t next added turn r rounds round (far.spares new));
     }
 
 -- a session has few tracks
@@ -61,5 +56,4 @@ all_played links g n turns s rounds t tally ready far samples entries = record {
   whole = journal_whole (length g.tracks) (noted_of g rounds) t.fast.log far.noted samples;
   form = journal_form (length g.tracks) (noted_of g rounds) t.fast.log far.noted samples (ranges_dealt (noted_of g rounds) t.fast.log (few_tracks links g n t ready) far.numbers entries);
   tally_is = far.tally_is;
-  spares = far.spares;
 }

@@ -6,7 +6,6 @@ use Rattle.af_io.specs.Files.{Files, SameFiles, SetsFile, LeavesFront}
 use Rattle.af_io.specs.declared.store.StoreError.{StoreError}
 use Rattle.af_model.specs.JournalForm.{IsJournal, IsWhole}
 use Rattle.af_model.specs.Journals.{JournalData, RoundNoted, RoundsNoted, journal_of}
-use Rattle.af_rendering.specs.Hostile.{PokesSpareEntries, PokesSpareOthers, SparesSoFar}
 use Rattle.af_script.specs.Data.{ScriptData}
 use Rattle.af_script.specs.declared.op.Op.{Op}
 use Rattle.af_script.specs.declared.op.TurnSpec.{TurnSpec}
@@ -45,14 +44,13 @@ pub record Runs (g : Given) (turns : List TurnSpec) (s : SessionState) (rounds :
 abbrev pub PlaysRound : Given → TurnSpec → SessionState → SessionState → Type 0
 PlaysRound g turn s t = (bytes : List ℕ) × IsRound g turn s (round_told turn s t) bytes t × (pcm_of s.fast.frames s.fast.log ++ bytes ≡ pcm_of s.fast.frames t.fast.log)
 
--- All these turns were played from s to t. Their rounds make a journal with the log, and the tally is that of the rounds. If no track was shut before, each track that nobody poked was spared
+-- All these turns were played from s to t. Their rounds make a journal with the log, and the tally is that of the rounds
 pub record PlaysTurns (g : Given) (turns : List TurnSpec) (s : SessionState) (rounds : RoundsNoted) (t : SessionState) (tally : Tallied) : Type 0 where
   pub runs : Runs g turns s rounds.rounds t
   pub tracks : rounds.tracks ≡ length g.tracks
   pub whole : IsWhole rounds t.fast.log
   pub form : IsJournal (journal_of rounds t.fast.log)
   pub tally_is : (first : FastState) → IsTally (shown_at first (length g.tracks) rounds.rounds t.fast) tally
-  pub spares : SparesSoFar [] s → SparesSoFar rounds.rounds t
 
 -- The parties t have played these turns since they were made of the script, with these rounds: a turn run with the files, whose bytes are the sound of the log
 pub record Renders (script : ScriptData) (files : List (List Frame)) (turns : List TurnSpec) (rounds : List RoundNoted) (t : SessionState) : Type 0 where
@@ -103,10 +101,8 @@ pub record HandsBack (script : ScriptData) (files : List (List Frame)) (journal 
   pub ends_are : ends ≡ ends_from parties
   pub count : length ends.clients ≡ length script.tracks
 
--- What a render comes to, by its journal: the ends of the turn run, the summary of the journal with them, and the steps that its cycles took, each no more than it may. Each track on whose blocks nothing was poked was spared, by the looks of either mixer
+-- What a render comes to, by its journal: the ends of the turn run, the summary of the journal with them, and the steps that its cycles took, each no more than it may
 pub record ComesTo (script : ScriptData) (files : List (List Frame)) (journal : JournalData) (summary : Summary) (ends : EndsState) (steps : List (ℕ × ℕ)) : Type 0 where
   pub back : HandsBack script files journal ends
   pub summary_is : summary ≡ summary_told script.frames journal ends
   pub few : AreFew (shown_by script.frames journal ends.normal.mutator.past.events) steps
-  pub spared : PokesSpareOthers (shown_by script.frames journal ends.normal.mutator.past.events)
-  pub entries : PokesSpareEntries (shown_by script.frames journal ends.normal.mutator.past.events)

@@ -8,7 +8,6 @@ use Rattle.af_party.specs.Parties.{PartyState}
 use Rattle.af_script.specs.Data.{ScriptData}
 use Rattle.af_script.specs.Form.{IsScript}
 use Rattle.af_rendering.specs.declared.staging.Stage.{Stage}
-use Rattle.af_rendering.specs.Hostile.{PokesSpareEntries, PokesSpareOthers}
 use Rattle.af_session.specs.NewSession.{IsNewSession}
 use Rattle.af_rendering.specs.Rendered.{Renders}
 use Rattle.af_session.specs.Rooms.{IsNewRoom}
@@ -41,7 +40,7 @@ noted_as rounds s = record s { rounds = rounds }
 abbrev pub shown_on : ScriptData → Stage → Shown
 shown_on script s = shown_in script.frames s.rounds s.parties.fast.log s.parties.normal.mutator.past.events
 
--- The rounds noted on a stage make a journal with the log, and the tally is theirs. There is room for a count of each client. Each track that nobody poked was spared
+-- The rounds noted on a stage make a journal with the log, and the tally is theirs. There is room for a count of each client
 pub record IsNoted (script : ScriptData) (s : Stage) : Type 0 where
   pub tracks : s.rounds.tracks ≡ length script.tracks
   pub whole : IsWhole s.rounds s.parties.fast.log
@@ -50,10 +49,8 @@ pub record IsNoted (script : ScriptData) (s : Stage) : Type 0 where
   pub tally : IsTally (shown_on script s) s.room.tally
   pub released : All (λ (p : PartyState). p.stream.released < 2 ^ 58) s.parties.clients
   pub room : s.room.released ≡ record { items = []; room = length script.tracks }
-  pub spared : PokesSpareOthers (shown_on script s)
 
 -- all turns of the script were played on the stage
 pub record HasRendered (script : ScriptData) (files : List (List Frame)) (s : Stage) : Type 0 where
   pub all : Renders script files script.turns s.rounds.rounds s.parties
   pub noted : IsNoted script s
-  pub entries : PokesSpareEntries (shown_on script s)

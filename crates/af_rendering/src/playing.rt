@@ -3,7 +3,6 @@ ghost use Rattle.std.specs.Prelude.{◌≡◌, ◌+◌, ◌*◌, ◌<◌, ◌≤
 ghost use Rattle.af_io.specs.Causes.{HasCause};
 ghost use Rattle.af_model.specs.Journals.{RoundNoted, RoundsNoted};
 ghost use Rattle.af_script.specs.Form.{IsTurn};
-ghost use Rattle.af_rendering.specs.FastSpared.{FastSparesSoFar};
 ghost use Rattle.af_rendering.specs.Rendered.{Extends, PlaysRound, PlaysTurns, Runs, Sends, SendsRound};
 ghost use Rattle.af_rendering.specs.Stages.{HasRoomToWait};
 ghost use Rattle.af_session.specs.Rooms.{CarriesOn, HasAdded, HasPlacesAt, HasRoundRoom, IsReadyOn, KeepsRoom, given_of};
@@ -140,7 +139,6 @@ pub(crate) fn play_all<S: Store>(
     ensures run { (n : ℕ) × (played : List RoundNoted) × Runs (given_of rig.now) (take n turns.now) parties.old played parties.new }
     ensures all { OnOk result ((rounds : RoundsNoted) × PlaysTurns (given_of rig.now) turns.now parties.old rounds parties.new room.new.tally) }
     ensures frames { OnOk result (parties.new.fast.frames ≡ parties.old.fast.frames) }
-    ensures entries { FastSparesSoFar parties.old → OnOk result (FastSparesSoFar parties.new) }
     ensures kept { KeepsRoom room.old room.new }
     ensures sent { S.told store.old
         → Extends result name.now (pcm_of parties.old.fast.frames parties.old.fast.log) (pcm_of parties.old.fast.frames parties.new.fast.log)

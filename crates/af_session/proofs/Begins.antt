@@ -1,6 +1,6 @@
 -- A new session: its parties are new, in order, and belong together.
 use Rattle.std.proofs.Common.{◌≡◌, ℕ, ◌*◌, ◌^◌, ◌≤◌, List, [], ◌∷◌, length, map, option_map, slice_get, Option, Some, None, refl, sym, ap, ◌∙◌, subst, arith}
-use Rattle.af_session.proofs.Common.{All, All-map, AreClientsOf, AreTogether as AreEndsTogether, ClientState, EngineState, IsEngineTrack, IsMixerSpec, IsNewEngine, IsNewLine, IsNewTrack as IsNewOne, IsScript, IsTrack, Links, Made, MixerSpec, PartyState, ServerState, Shape, TrackEnds, TrackSpec, command_shape, get_or_from_slice_get, length-map, made_of, new_normal, none-some, same_Some, script_setup, setting_of, setup_of, slice_get-map, slice_get_within, some_at, spec_setting, stream_shape, tracks_of as tracks_in}
+use Rattle.af_session.proofs.Common.{All, All-map, AreClientsOf, AreNewClients, AreNewTracks, AreTogether as AreEndsTogether, ClientState, EngineState, IsClientOf, IsEngineTrack, IsMixerSpec, IsNewEngine, IsNewLine, IsNewTrack as IsNewOne, IsScript, IsTrack, Links, Made, MixerSpec, PartyState, ServerState, SessionState, Shape, TrackEnds, TrackSpec, command_shape, engine_track, get_or_from_slice_get, length-map, made_of, new_normal, none-some, same_Some, script_setup, setting_of, setup_of, slice_get-map, slice_get_within, some_at, spec_setting, stream_shape, tracks_of as tracks_in}
 use Rattle.af_engine.specs.declared.spec.EngineTrack.{EngineTrack}
 use Rattle.af_engine.specs.NewEnds.{AreNewEnds, ends_of}
 use Rattle.af_engine.specs.Shares.{SharedState}
@@ -10,8 +10,8 @@ use Rattle.af_normal.specs.Making.{IsMade, TrackList}
 use Rattle.af_normal.specs.declared.make.TrackSetup.{TrackSetup}
 use Rattle.af_script.specs.Data.{ScriptData}
 use Rattle.af_session.specs.NewSession.{IsNewSession, IsSpecOf, tracks_of}
-use Rattle.af_session.specs.NewTracks.{AreNewClients, AreNewTracks, IsClientOf, IsNewTrack, engine_track}
-use Rattle.af_session.specs.Together.{AreTogether, SessionState}
+use Rattle.af_session.specs.NewTracks.{IsNewTrack}
+use Rattle.af_session.specs.Together.{AreTogether}
 use Rattle.af_session.proofs.NewWork.{new_party}
 use Rattle.af_session.proofs.Sizes.{command_shape_is, stream_shape_is}
 

@@ -1,16 +1,10 @@
 -- The meetings of a round, and the ends of its clients, carry on what its turns did.
 use Rattle.std.proofs.Common.{◌≡◌, ℕ, ◌+◌, ◌++◌, ◌∷◌, [], length, sym, ap, subst, ◌∙◌}
-use Rattle.af_session.proofs.Common.{IsInOrder, IsTally, Logged, MixerState, RoundNoted, Shown, Tallied}
+use Rattle.af_session.proofs.Common.{CarriesOn, FollowsRound, HasPlaces, IsInOrder, IsReadyOn, IsTally, Logged, Met, MixerState, Room, RoundNoted, SessionState, Shown, Tallied, given_of, shown_at, with_ends}
 use Rattle.af_session.proofs.Following.{shown_met}
 use Rattle.af_session.proofs.FollowingRounds.{ends_keep}
 use Rattle.af_session.proofs.Ready.{ready_ends}
 use Rattle.af_session.specs.declared.rig.Rig.{Rig}
-use Rattle.af_session.specs.declared.room.Room.{Room}
-use Rattle.af_session.specs.Met.{Met}
-use Rattle.af_session.specs.Rooms.{CarriesOn, IsReadyOn, given_of}
-use Rattle.af_session.specs.Rounds.{with_ends}
-use Rattle.af_session.specs.Shown.{FollowsRound, HasPlaces, shown_at}
-use Rattle.af_session.specs.Together.{SessionState}
 
 module _ (s played met t : SessionState) (meets : Met played met) (long : length met.clients ≡ length played.clients) (ends : t ≡ with_ends met) where
   same_fast : t.fast ≡ met.fast
@@ -39,7 +33,7 @@ module _ (s played met t : SessionState) (meets : Met played met) (long : length
   -- what the turns carried on the round carries on
   pub carried_on : (rig : Rig) (told told' : RoundNoted) (room room' : Room) → told' ≡ told → IsInOrder played.fast → ((n : ℕ) → IsReadyOn rig n played → IsReadyOn rig n met) → CarriesOn rig told s played room room' → CarriesOn rig told' s t room room'
   carried_on rig told told' room room' same order stays on = record {
-    ready = (λ n held. subst (IsReadyOn rig (n + 1)) (sym ends) (ready_ends rig.links (given_of rig) (n + 1) met (stays (n + 1) (on.ready n held))));
+    ready = (λ n held. subst (IsReadyOn rig (n + 1)) (sym ends) (ready_ends (given_of rig) rig.links (n + 1) met (stays (n + 1) (on.ready n held))));
     sizes = (sizes_met.0 ∙ on.sizes.0, sizes_met.1 ∙ on.sizes.1);
     kept = on.kept;
     tally = follows_met told told' room.tally room'.tally same order on.tally;

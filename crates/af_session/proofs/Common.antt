@@ -1,5 +1,5 @@
--- The names of other crates that the proofs of this one cite, passed on from one place. Declares nothing.
-pub use Rattle.af_base.proofs.Basics.{at_before, at_last, get_set_other, get_set_same, some_at}
+-- The names of other crates, and of the specs of this one, that the proofs of this one cite, passed on from one place. Declares nothing.
+pub use Rattle.af_base.proofs.Basics.{at_before, at_last, get_set_same, some_at}
 pub use Rattle.af_base.specs.Log.{Logged, count_seen, entry_at, entry_slot, no_entry, slots, takes_of}
 pub use Rattle.af_base.specs.Mix.{Take, mix}
 pub use Rattle.af_base.specs.Roomy.{Roomy}
@@ -15,9 +15,9 @@ pub use Rattle.af_base.specs.declared.turn.TurnEntry.{TurnEntry}
 pub use Rattle.af_cblk.specs.Shape.{IsShape, most_flushes}
 pub use Rattle.af_cblk.specs.Sides.{HandSide, Made, client_made}
 pub use Rattle.af_client.specs.Order.{ClientState}
-pub use Rattle.af_engine.proofs.MetTracks.{all_at_set, items_by_number, met_by_number, one_met, others_by_number}
+pub use Rattle.af_engine.proofs.MetTracks.{MetSoFar, all_at_set, all_met, met_more}
 pub use Rattle.af_engine.specs.Engines.{AreTogether, EngineState}
-pub use Rattle.af_engine.specs.Met.{MeetsAway, Proxies, Spot, SpotMet, TracksMet, proxies_of, spot_of}
+pub use Rattle.af_engine.specs.Met.{MeetsAway, Spot, SpotMet, proxies_of, spot_of}
 pub use Rattle.af_engine.specs.MixerSpecs.{IsEngineTrack, IsMakeCause, IsMixerSpec, setting_of, setup_of}
 pub use Rattle.af_engine.specs.NewEngine.{IsNewEngine, tracks_of}
 pub use Rattle.af_engine.specs.NewTracks.{IsCommandShape, IsNewClient, IsNewLine, IsNewTrack, IsStreamShape}
@@ -31,6 +31,7 @@ pub use Rattle.af_model.specs.Cycles.{UseUpTo, cold_done, is_mixed, last_used, s
 pub use Rattle.af_model.specs.Journals.{RoundNoted}
 pub use Rattle.af_model.specs.declared.shape.Shape.{Shape}
 pub use Rattle.af_normal.specs.Meeting.{AreClientsOf, MeetsStream, client_knows}
+pub use Rattle.af_normal.specs.Order.{most_turns}
 pub use Rattle.af_normal.specs.State.{NormalState}
 pub use Rattle.af_normal.specs.TurnMade.{TurnMade, answer_of}
 pub use Rattle.af_party.specs.Parties.{PartyState, side_of_proxy, track_of}
@@ -44,6 +45,15 @@ unfoldable pub use Rattle.af_script.specs.Ops.{cells_of}
 pub use Rattle.af_script.specs.declared.op.Op.{Op}
 pub use Rattle.af_script.specs.declared.track.TrackSpec.{TrackSpec}
 pub use Rattle.af_server.specs.Order.{ServerState}
+pub use Rattle.af_session.specs.FastTurns.{IsCycle, IsFastTurn, StepsOn, TurnAdds, Turned, WritesCycle}
+pub use Rattle.af_session.specs.Met.{Met, TrackMet}
+pub use Rattle.af_session.specs.NewTracks.{AreNewClients, AreNewTracks, IsClientOf, IsNewParty, engine_track, first_track}
+pub use Rattle.af_session.specs.Rooms.{CarriesOn, HasAdded, HasNotedOn, HasPlacesAt, HasRoom, IsReadyOn, KeepsRoom, KeepsSizes, given_of}
+pub use Rattle.af_session.specs.Rounds.{Given, IsReady, Turns, calls_in, client_round, end_party, fast_round, file_at, normal_round, ops_at, ops_of, round_told, still_round, with_ends}
+pub use Rattle.af_session.specs.Shown.{Follows, FollowsRound, HasPlaces, calls_over, frames_written, shown_at, turn_in, use_of}
+unfoldable pub use Rattle.af_session.specs.Shown.{shows}
+pub use Rattle.af_session.specs.Together.{SessionState}
+pub use Rattle.af_session.specs.declared.room.Room.{Room}
 pub use Rattle.af_stateq.specs.Laws.{polled_states}
 pub use Rattle.af_tally.proofs.Sounding.{grows_not, grows_on, log_grows, map_same, same_if, takes_stay}
 pub use Rattle.af_tally.specs.Sound.{Grows, IsMixed, IsWhole}

@@ -1,10 +1,7 @@
 -- What the cycles of a fast turn add to the log and to the sound.
 use Rattle.std.proofs.Common.{◌≡◌, ℕ, zero, suc, ◌+◌, ◌≤◌, ◌==◌, ◌||◌, if◌then◌else◌, ne_eqb, Bool, true, false, true≢false, All, List, [], ◌∷◌, ◌++◌, length, refl, sym, ap, subst, ◌∙◌, append-nil, append_assoc, eqb-true, arith}
-use Rattle.af_session.proofs.Common.{AddsCycle, Adopts, All-append, All-cons, All-nil, Cycle, CycleEntry, FastState, Frame, Grows, IsMixed, IsWhole, LieWithin, Logged, MixerState, MixesOnce, Roomy, Writes, adopted_states, cold_done, count_seen, entries_pcm, entry_pcm, entry_slot, flat_map-cons, grows_not, grows_on, is_mixed, is_over, length-append, log_grows, mix, pcm_bytes, same_if, slots, state_of, taken_before, taken_up, takes_of, written}
+use Rattle.af_session.proofs.Common.{AddsCycle, Adopts, All-append, All-cons, All-nil, Cycle, CycleEntry, FastState, Frame, Grows, IsCycle, IsFastTurn, IsMixed, IsWhole, LieWithin, Logged, Met, MixerState, MixesOnce, Roomy, SessionState, StepsOn, TurnAdds, Turned, Writes, WritesCycle, adopted_states, cold_done, count_seen, entries_pcm, entry_pcm, entry_slot, flat_map-cons, grows_not, grows_on, is_mixed, length-append, log_grows, mix, pcm_bytes, same_if, slots, state_of, taken_before, taken_up, takes_of, written}
 use Rattle.af_model.proofs.Basics.{mixes_state}
-use Rattle.af_session.specs.FastTurns.{IsCycle, IsFastTurn, TurnAdds, Turned, WritesCycle}
-use Rattle.af_session.specs.Met.{Met}
-use Rattle.af_session.specs.Together.{SessionState}
 
 -- ## Where the frames of a new entry stand
 
@@ -63,24 +60,27 @@ adds_entry m m' out out' answer entry long whole is a w =
       grows = subst (Grows len m.log m'.log (entry ∷ [])) bytes (log_grows len m.log m'.log (entry ∷ []) a.takes.grown.0 whole a.entries a.takes.grown.1 within);
     }
 
--- a call of mix adds at most one entry
-pub mix_adds : (m m' : MixerState) (out out' : List Frame) (answer : Cycle) → length out ≡ m.frames → IsWhole m.log → MixesOnce m out answer m' out' → AddsOne m.frames answer m.log m'.log (written answer out')
-mix_adds m m' out out' answer long whole x = by_exit m.exited refl
-  where
-    by_length : (full : Bool) → m.exited ≡ false → (length m.log.entries == m.cycles) ≡ full → AddsOne m.frames answer m.log m'.log (written answer out')
-    by_length true runs is =
-        let done = x.spent runs (eqb-true (length m.log.entries) m.cycles is) in
-        adds_none m.frames answer m.log m'.log out' whole (ap is_mixed done.0) (ap (λ (y : MixerState). y.log) done.1)
-    by_length false runs is =
-        let goes : is_over m ≡ false = ap (λ (b : Bool). b || (length m.log.entries == m.cycles)) runs ∙ is in
-        let done = x.adds goes in
-        adds_entry m m' out out' answer done.0 long whole done.1 done.2 done.3
+-- what a call of mix does: it leaves all but a mark as it was, and mixes nothing, or adds an entry
+pub data MixDoes (m m' : MixerState) (out out' : List Frame) (answer : Cycle) : Type 0 where
+  mix_idles : m' ≡ record m { adopted = false } → is_mixed answer ≡ false → MixDoes m m' out out' answer
+  mix_enters : (entry : CycleEntry) → answer ≡ entry.cycle → AddsCycle m m' entry → Writes m' entry out out' → MixDoes m m' out out' answer
 
-    by_exit : (exited : Bool) → m.exited ≡ exited → AddsOne m.frames answer m.log m'.log (written answer out')
-    by_exit true is =
-        let done = x.exited is in
-        adds_none m.frames answer m.log m'.log out' whole (ap is_mixed done.0) (ap (λ (y : MixerState). y.log) done.1)
+pub mix_does : (m m' : MixerState) (out out' : List Frame) (answer : Cycle) → MixesOnce m out answer m' out' → MixDoes m m' out out' answer
+mix_does m m' out out' answer x = by_exit m.exited refl
+  where
+    by_length : (full : Bool) → m.exited ≡ false → (length m.log.entries == m.cycles) ≡ full → MixDoes m m' out out' answer
+    by_length true runs is = let done = x.spent runs (eqb-true (length m.log.entries) m.cycles is) in mix_idles done.1 (ap is_mixed done.0)
+    by_length false runs is = let done = x.adds (ap (λ (b : Bool). b || (length m.log.entries == m.cycles)) runs ∙ is) in mix_enters done.0 done.1 done.2 done.3
+
+    by_exit : (exited : Bool) → m.exited ≡ exited → MixDoes m m' out out' answer
+    by_exit true is = let done = x.exited is in mix_idles done.1 (ap is_mixed done.0)
     by_exit false is = by_length (length m.log.entries == m.cycles) is refl
+
+-- a call of mix adds at most one entry
+pub mix_adds : (m m' : MixerState) (out out' : List Frame) (answer : Cycle) → length out ≡ m.frames → IsWhole m.log → MixDoes m m' out out' answer
+    → AddsOne m.frames answer m.log m'.log (written answer out')
+mix_adds m m' out out' answer long whole (mix_idles same dry) = adds_none m.frames answer m.log m'.log out' whole dry (ap (λ (y : MixerState). y.log) same)
+mix_adds m m' out out' answer long whole (mix_enters entry is a w) = adds_entry m m' out out' answer entry long whole is a w
 
 -- the meetings leave the log, the sizes and the mark of the fast mixer as they are
 pub met_keeps : (a b : SessionState) → Met a b → (b.fast.log ≡ a.fast.log) × (b.fast.frames ≡ a.fast.frames) × (b.fast.cycles ≡ a.fast.cycles) × (b.fast.adopted ≡ a.fast.adopted)
@@ -114,7 +114,8 @@ cycle_adds s s' answer bytes whole w =
     let polled = polled_keeps s.fast w.cycle.polled w.cycle.adopts in
     let log : w.cycle.met.fast.log ≡ s.fast.log = met.0 ∙ polled.0 in
     let frames : w.cycle.met.fast.frames ≡ s.fast.frames = met.1 ∙ polled.1 in
-    let adds = mix_adds w.cycle.met.fast s'.fast w.before w.after answer (w.long ∙ sym frames) (subst IsWhole (sym log) whole) w.cycle.mixes in
+    let adds = mix_adds w.cycle.met.fast s'.fast w.before w.after answer (w.long ∙ sym frames) (subst IsWhole (sym log) whole)
+    (mix_does w.cycle.met.fast s'.fast w.before w.after answer w.cycle.mixes) in
     let of_log = subst (λ (l : Logged). AddsOne w.cycle.met.fast.frames answer l s'.fast.log (written answer w.after)) log adds in
     let of_frames = subst (λ (n : ℕ). AddsOne n answer s.fast.log s'.fast.log (written answer w.after)) frames of_log in
     subst (AddsOne s.fast.frames answer s.fast.log s'.fast.log) (sym w.bytes_are) of_frames
@@ -126,18 +127,13 @@ cycle_whole s s' answer bytes whole w = (cycle_adds s s' answer bytes whole w).g
 -- ## A turn
 
 -- a cycle that mixes nothing is the last of its turn: the turn adds what the cycle does
-pub adds_last : (len left : ℕ) (answer : Cycle) (log log' : Logged) (bytes : List ℕ) → AddsOne len answer log log' bytes → TurnAdds len (suc left) log log' bytes
-adds_last len left answer log log' bytes a = record {
-  mixes = [];
-  last = a.entries;
-  all_mixed = All-nil IsMixed;
-  one = a.one;
-  few = (let one = a.one in omega arith);
-  grows = a.grows;
-}
+adds_last : (len left : ℕ) (answer : Cycle) (log log' : Logged) (bytes : List ℕ) → AddsOne len answer log log' bytes → TurnAdds len (suc left) log log' bytes
+adds_last len left answer log log' bytes a =
+    record { mixes = []; last = a.entries; all_mixed = All-nil IsMixed; one = a.one; few = (let one = a.one in omega arith); grows = a.grows }
 
 -- after a mix the turn goes on: it adds what the mix and the other cycles do
-pub adds_more : (len left : ℕ) (answer : Cycle) (a b c : Logged) (front back : List ℕ) → is_mixed answer ≡ true → AddsOne len answer a b front → TurnAdds len left b c back → TurnAdds len (suc left) a c (front ++ back)
+adds_more : (len left : ℕ) (answer : Cycle) (a b c : Logged) (front back : List ℕ) → is_mixed answer ≡ true → AddsOne len answer a b front
+    → TurnAdds len left b c back → TurnAdds len (suc left) a c (front ++ back)
 adds_more len left answer a b c front back mixed p q = record {
   mixes = p.entries ++ q.mixes;
   last = q.last;
@@ -147,36 +143,46 @@ adds_more len left answer a b c front back mixed p q = record {
   grows = subst (λ (l : List CycleEntry). Grows len a c l (front ++ back)) (sym (append_assoc p.entries q.mixes q.last)) (grows_on len a b c p.entries (q.mixes ++ q.last) front back p.grows q.grows);
 }
 
--- a cycle, and the cycles that come after it, add what a turn may add
-turn_step : (left : ℕ) (s next s' : SessionState) (answer : Cycle) (front back : List ℕ) → AddsOne s.fast.frames answer s.fast.log next.fast.log front → next.fast.frames ≡ s.fast.frames
-    → (is_mixed answer ≡ true → TurnAdds next.fast.frames left next.fast.log s'.fast.log back) → (is_mixed answer ≡ false → (back ≡ []) × (s' ≡ next))
-    → TurnAdds s.fast.frames (suc left) s.fast.log s'.fast.log (front ++ back)
-turn_step left s next s' answer front back first sizes more over = by_answer (is_mixed answer) refl
-  where
-    by_answer : (mixed : Bool) → is_mixed answer ≡ mixed → TurnAdds s.fast.frames (suc left) s.fast.log s'.fast.log (front ++ back)
-    by_answer true is =
-        let rest = subst (λ (n : ℕ). TurnAdds n left next.fast.log s'.fast.log back) sizes (more is) in
-        adds_more s.fast.frames left answer s.fast.log next.fast.log s'.fast.log front back is first rest
-    by_answer false is =
-        let end = adds_last s.fast.frames left answer s.fast.log next.fast.log front first in
-        let bytes_are : front ≡ front ++ back = sym (ap (λ (l : List ℕ). front ++ l) (over is).0 ∙ append-nil front) in
-        subst (λ (y : SessionState). TurnAdds s.fast.frames (suc left) s.fast.log y.fast.log (front ++ back)) (sym (over is).1) (subst (TurnAdds s.fast.frames (suc left) s.fast.log next.fast.log) bytes_are end)
-
--- a turn adds what its cycles do
-pub turn_adds : (left : ℕ) (s s' : SessionState) (bytes : List ℕ) → IsWhole s.fast.log → IsFastTurn left s bytes s' → TurnAdds s.fast.frames left s.fast.log s'.fast.log bytes
-turn_adds zero s s' bytes whole turn = record {
+-- a turn that leaves the log as it is adds nothing
+pub none_added : (len count : ℕ) (log log' : Logged) (bytes : List ℕ) → IsWhole log → log' ≡ log → bytes ≡ [] → TurnAdds len count log log' bytes
+none_added len count log log' bytes whole same none = record {
   mixes = [];
   last = [];
   all_mixed = All-nil IsMixed;
   one = omega arith;
   few = omega arith;
-  grows = subst (Grows s.fast.frames s.fast.log s'.fast.log []) (sym turn.0) (grows_not s.fast.frames s.fast.log s'.fast.log whole (ap (λ (y : SessionState). y.fast.log) turn.1));
+  grows = subst (Grows len log log' []) (sym none) (grows_not len log log' whole same);
 }
-turn_adds (suc left) s s' bytes whole (answer, next, front, back, cycle, bytes_are, more, over) =
-    let first = cycle_adds s next answer front whole cycle in
-    let sizes = cycle_sizes s next cycle.before cycle.after answer cycle.cycle in
-    subst (TurnAdds s.fast.frames (suc left) s.fast.log s'.fast.log) (sym bytes_are)
-    (turn_step left s next s' answer front back first sizes.0 (λ mixed. turn_adds left next s' back first.grows.whole (more mixed)) over)
+
+-- steps of a fast mixer, each of which adds at most one entry and keeps the sizes, add what a turn may add
+module _ {S : Type 0} (Once : S → Cycle → List ℕ → S → Type 0) (fast : S → MixerState)
+    (adds_once : (s t : S) (answer : Cycle) (bytes : List ℕ) → IsWhole (fast s).log → Once s answer bytes t → AddsOne (fast s).frames answer (fast s).log
+    (fast t).log bytes × ((fast t).frames ≡ (fast s).frames)) where
+  step_adds : (left : ℕ) (s next s' : S) (answer : Cycle) (front back : List ℕ) (mixed : Bool) → is_mixed answer ≡ mixed
+      → AddsOne (fast s).frames answer (fast s).log (fast next).log front
+      → (is_mixed answer ≡ true → TurnAdds (fast s).frames left (fast next).log (fast s').log back) → (is_mixed answer ≡ false → (back ≡ []) × (s' ≡ next))
+      → TurnAdds (fast s).frames (suc left) (fast s).log (fast s').log (front ++ back)
+  step_adds left s next s' answer front back true is first more over = adds_more (fast s).frames left answer (fast s).log (fast next).log
+      (fast s').log front back is first (more is)
+  step_adds left s next s' answer front back false is first more over =
+      let bytes_are : front ≡ front ++ back = sym (ap (λ (l : List ℕ). front ++ l) (over is).0 ∙ append-nil front) in
+      subst (λ (y : S × List ℕ). TurnAdds (fast s).frames (suc left) (fast s).log (fast y.0).log y.1) (λ i. (sym (over is).1 i, bytes_are i))
+      (adds_last (fast s).frames left answer (fast s).log (fast next).log front first)
+
+  pub steps_add : (left : ℕ) (s s' : S) (bytes : List ℕ) → IsWhole (fast s).log → StepsOn Once left s bytes s'
+      → TurnAdds (fast s).frames left (fast s).log (fast s').log bytes
+  steps_add zero s s' bytes whole turn = none_added (fast s).frames zero (fast s).log (fast s').log bytes whole (ap (λ (y : S). (fast y).log) turn.1) turn.0
+  steps_add (suc left) s s' bytes whole (answer, next, front, back, once, bytes_are, more, over) =
+      let first = adds_once s next answer front whole once in
+      subst (TurnAdds (fast s).frames (suc left) (fast s).log (fast s').log) (sym bytes_are)
+      (step_adds left s next s' answer front back (is_mixed answer) refl first.0
+      (λ mixed. subst (λ (n : ℕ). TurnAdds n left (fast next).log (fast s').log back) first.1
+      (steps_add left next s' back first.0.grows.whole (more mixed))) over)
+
+-- a turn adds what its cycles do
+pub turn_adds : (left : ℕ) (s s' : SessionState) (bytes : List ℕ) → IsWhole s.fast.log → IsFastTurn left s bytes s' → TurnAdds s.fast.frames left s.fast.log s'.fast.log bytes
+turn_adds = steps_add WritesCycle (λ (s : SessionState). s.fast)
+    (λ s t answer bytes whole w. (cycle_adds s t answer bytes whole w, (cycle_sizes s t w.before w.after answer w.cycle).0))
 
 -- a turn that put its bytes behind others adds what its cycles do
 pub turned_by : (count : ℕ) (s s' : SessionState) (bytes bytes' : Roomy ℕ) (added : List ℕ) → IsWhole s.fast.log → bytes' ≡ record bytes { items = bytes.items ++ added } → IsFastTurn count s added s' → Turned count s s' bytes bytes'

@@ -1,35 +1,40 @@
 -- How the cycles of a fast turn are a chain, from its beginning on.
 use Rattle.std.proofs.Common.{◌≡◌, ℕ, suc, ◌+◌, ◌-◌, ◌*◌, ◌<◌, ◌≤◌, if◌then◌else◌, Bool, true, false, true≢false, List, [], ◌∷◌, ◌++◌, length, refl, sym, ap, subst, ◌∙◌, append-nil, append_assoc, arith}
-use Rattle.af_session.proofs.Common.{Cycle, Frame, Roomy, flat_map-cons, frame_bytes, is_mixed, length-append, pcm_bytes, written}
+use Rattle.af_session.proofs.Common.{Cycle, Frame, Roomy, StepsOn, flat_map-cons, frame_bytes, is_mixed, length-append, pcm_bytes, written}
 use Rattle.std.proofs.Math.Nat.{add-zero, mul-le-mul_right}
-use Rattle.af_session.specs.FastTurns.{IsFastTurn, WritesCycle}
-use Rattle.af_session.specs.Together.{SessionState}
 
--- After i cycles that wrote `front` the parties are `now`: what the other cycles do from there on completes the turn
-abbrev pub GoesTo : ℕ → ℕ → SessionState → SessionState → List ℕ → Type 0
-GoesTo count i first now front = (left : ℕ) (back : List ℕ) (last : SessionState) → left + i ≡ count → IsFastTurn left now back last → IsFastTurn count first (front ++ back) last
+module _ {S : Type 0} (Once : S → Cycle → List ℕ → S → Type 0) (count : ℕ) (first : S) where
+  -- After i cycles that wrote `front` the state is `now`: what the other cycles do from there on completes the turn
+  abbrev pub GoesTo : ℕ → S → List ℕ → Type 0
+  GoesTo i now front = (left : ℕ) (back : List ℕ) (last : S) → left + i ≡ count → StepsOn Once left now back last → StepsOn Once count first
+      (front ++ back) last
 
--- before the first cycle the parties are those at the beginning
-pub goes_first : (count : ℕ) (first : SessionState) → GoesTo count 0 first first []
-goes_first count first left back last is turn = subst (λ (n : ℕ). IsFastTurn n first back last) (sym (add-zero left) ∙ is) turn
+  -- before the first cycle the state is that at the beginning
+  pub goes_first : GoesTo 0 first []
+  goes_first left back last is turn = subst (λ (n : ℕ). StepsOn Once n first back last) (sym (add-zero left) ∙ is) turn
 
--- after one more mix the turn goes on
-pub goes_on : (count i : ℕ) (first now next : SessionState) (answer : Cycle) (front more : List ℕ) → GoesTo count i first now front → WritesCycle now answer more next → is_mixed answer ≡ true → GoesTo count (i + 1) first next (front ++ more)
-goes_on count i first now next answer front more goes w mixed left back last is turn =
-    let whole : IsFastTurn (suc left) now (more ++ back) last = (answer, next, more, back, w, refl, λ _. turn, λ dry. absurd (true≢false (sym mixed ∙ dry))) in
-    subst (λ (bytes : List ℕ). IsFastTurn count first bytes last) (sym (append_assoc front more back)) (goes (suc left) (more ++ back) last (omega (arith, is)) whole)
+  -- after one more mix the turn goes on
+  pub goes_on : (i : ℕ) (now next : S) (answer : Cycle) (front more : List ℕ) → GoesTo i now front → Once now answer more next → is_mixed answer ≡ true
+      → GoesTo (i + 1) next (front ++ more)
+  goes_on i now next answer front more goes w mixed left back last is turn =
+      let whole : StepsOn Once (suc left) now (more ++ back) last = (answer, next, more, back, w, refl, λ _. turn, λ dry. absurd (true≢false (sym mixed ∙ dry)))
+      in
+      subst (λ (bytes : List ℕ). StepsOn Once count first bytes last) (sym (append_assoc front more back))
+      (goes (suc left) (more ++ back) last (omega (arith, is)) whole)
 
--- after all cycles the turn is over
-pub goes_whole : (count : ℕ) (first now : SessionState) (front : List ℕ) → GoesTo count count first now front → IsFastTurn count first front now
-goes_whole count first now front goes = subst (λ (bytes : List ℕ). IsFastTurn count first bytes now) (append-nil front) (goes 0 [] now (omega arith) (refl, refl))
+  -- after all cycles the turn is over
+  pub goes_whole : (i : ℕ) (now : S) (front : List ℕ) → i ≡ count → GoesTo i now front → StepsOn Once count first front now
+  goes_whole i now front all goes = subst (λ (bytes : List ℕ). StepsOn Once count first bytes now) (append-nil front)
+      (goes 0 [] now (omega (arith, all)) (refl, refl))
 
--- after a cycle that mixes nothing the turn is over
-pub goes_over : (count i : ℕ) (first now next : SessionState) (answer : Cycle) (front more : List ℕ) → GoesTo count i first now front → WritesCycle now answer more next → is_mixed answer ≡ false → i < count
-    → IsFastTurn count first (front ++ more) next
-goes_over count i first now next answer front more goes w dry lt =
-    let left : ℕ = count - i - 1 in
-    let turn : IsFastTurn (suc left) now more next = (answer, next, more, [], w, sym (append-nil more), (λ mixed. absurd (true≢false (sym mixed ∙ dry))), λ _. (refl, refl)) in
-    goes (suc left) more next (omega arith) turn
+  -- after a cycle that mixes nothing the turn is over
+  pub goes_over : (i : ℕ) (now next : S) (answer : Cycle) (front more : List ℕ) → GoesTo i now front → Once now answer more next → is_mixed answer ≡ false
+      → i < count → StepsOn Once count first (front ++ more) next
+  goes_over i now next answer front more goes w dry lt =
+      let left : ℕ = count - i - 1 in
+      let turn : StepsOn Once (suc left) now more next =
+      (answer, next, more, [], w, sym (append-nil more), (λ mixed. absurd (true≢false (sym mixed ∙ dry))), λ _. (refl, refl)) in
+      goes (suc left) more next (omega arith) turn
 
 -- the sound of some frames has four bytes a frame
 pub long_pcm : (frames : List Frame) → length (pcm_bytes frames) ≡ 4 * length frames

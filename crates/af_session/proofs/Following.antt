@@ -1,6 +1,6 @@
 -- How what a run shows follows the cycles of the fast mixer.
-use Rattle.std.proofs.Common.{◌≡◌, ℕ, ◌+◌, ◌-◌, ◌^◌, ◌<◌, ◌≤◌, ◌==◌, ◌||◌, ◌⊎◌, inl, inr, ⊎_elim, eqb-true, if◌then◌else◌, Bool, true, false, All, List, [], ◌∷◌, ◌++◌, length, map, Option, Some, None, refl, sym, ap, subst, ◌∙◌, append-nil, append_assoc, arith}
-use Rattle.af_session.proofs.Common.{AddsCycle, Adopts, All-head, All-tail, ClientCall, Cycle, CycleEntry, EntryUsed, FastState, Frame, IsInOrder, IsTally, IsWhole, Keeps, LieWithin, MixerState, MixesOnce, RoundNoted, ServerState, Shown, Take, Tallied, Turn, UseUpTo, Writes, entry_at, flat_map, flat_map-append, flat_map-cons, get_or_push, is_mixed, is_over, last_used, length_push, map-append, mix, most_steps, no_entry, polled_states, slots, state_more, state_of, takes_of, takes_stay, with_entry, with_written}
+use Rattle.std.proofs.Common.{◌≡◌, ℕ, ◌+◌, ◌-◌, ◌<◌, ◌≤◌, if◌then◌else◌, Bool, true, false, All, List, [], ◌∷◌, ◌++◌, length, map, Option, Some, None, refl, sym, ap, subst, ◌∙◌, append-nil, append_assoc, arith}
+use Rattle.af_session.proofs.Common.{AddsCycle, Adopts, All-head, All-tail, ClientCall, Cycle, CycleEntry, EntryUsed, FastState, Follows, Frame, HasNotedOn, HasPlaces, IsInOrder, IsTally, IsWhole, LieWithin, Met, MixerState, RoundNoted, ServerState, SessionState, Shown, Take, Tallied, Turn, UseUpTo, Writes, entry_at, flat_map, flat_map-append, flat_map-cons, frames_written, get_or_push, is_mixed, is_over, last_used, length_push, map-append, mix, most_steps, no_entry, polled_states, shown_at, shows, state_more, state_of, takes_of, takes_stay, use_of, with_entry, with_written}
 use Rattle.af_model.specs.declared.plain_calls.Poll.{Poll}
 use Rattle.af_model.specs.declared.plain_calls.Poll.TheVariants.{Nothing, Same, New}
 use Rattle.af_model.specs.declared.states.ObserverEvent.{ObserverEvent}
@@ -9,9 +9,7 @@ use Rattle.af_model.specs.declared.states.ObserverEvent.TheVariants as observer
 use Rattle.af_stateq.specs.Answers.{WasPolled}
 use Rattle.af_stateq.specs.Observes.{Observes}
 use Rattle.af_link.specs.declared.names.StreamNames.{StreamNames}
-use Rattle.af_session.specs.Met.{Met}
-use Rattle.af_session.specs.Shown.{Follows, HasPlaces, frames_written, shown_at, shows, use_of}
-use Rattle.af_session.specs.Together.{SessionState}
+use Rattle.af_session.proofs.FastAdds.{MixDoes, mix_enters, mix_idles}
 
 -- the frames that an entry wrote, at this length of a cycle: those of its mix, from the frames of its log
 abbrev entry_written : ℕ → List Frame → CycleEntry → List Frame
@@ -197,63 +195,35 @@ follows_cycle s p met m' x y order polled adopts meets mixes = λ first tracks r
 
 -- ## A call of mix
 
--- a call of mix leaves all but a mark as it was, or adds an entry
-mix_does : (m m' : MixerState) (out out' : List Frame) (answer : Cycle) → MixesOnce m out answer m' out' → (m' ≡ record m { adopted = false }) ⊎ ((entry : CycleEntry) × (answer ≡ entry.cycle) × AddsCycle m m' entry × Writes m' entry out out')
-mix_does m m' out out' answer x = by_exit m.exited refl
-  where
-    by_length : (full : Bool) → m.exited ≡ false → (length m.log.entries == m.cycles) ≡ full → (m' ≡ record m { adopted = false }) ⊎ ((entry : CycleEntry) × (answer ≡ entry.cycle) × AddsCycle m m' entry × Writes m' entry out out')
-    by_length true runs is = inl (x.spent runs (eqb-true (length m.log.entries) m.cycles is)).1
-    by_length false runs is = inr (x.adds (ap (λ (b : Bool). b || (length m.log.entries == m.cycles)) runs ∙ is))
+-- a mix after which the log is as long leaves all but a mark as it was
+is_still : (m m' : MixerState) (out out' : List Frame) (answer : Cycle) → MixDoes m m' out out' answer → length m'.log.entries ≤ length m.log.entries
+    → m' ≡ record m { adopted = false }
+is_still m m' out out' answer (mix_idles same dry) as_long = same
+is_still m m' out out' answer (mix_enters entry is a w) as_long = absurd (omega (arith, as_long, ap length a.entries ∙ length_push m.log.entries entry))
 
-    by_exit : (exited : Bool) → m.exited ≡ exited → (m' ≡ record m { adopted = false }) ⊎ ((entry : CycleEntry) × (answer ≡ entry.cycle) × AddsCycle m m' entry × Writes m' entry out out')
-    by_exit true is = inl (x.exited is).1
-    by_exit false is = by_length (length m.log.entries == m.cycles) is refl
+-- a tally that notes the entry that was added, and the frames that it wrote, follows the mix
+pub follows_added : (m m' : MixerState) (out out' : List Frame) (answer : Cycle) (x y z : Tallied) (steps : ℕ) → MixDoes m m' out out' answer
+    → length m.log.entries < length m'.log.entries → IsInOrder m → IsWhole m.log → length out ≡ m.frames → m'.frames ≡ m.frames
+    → steps ≤ most_steps m.frames m.observer.current
+    → ((run : Shown) → steps ≤ most_steps run.frames m'.observer.current → IsTally run x → IsTally (with_entry run (record { entry = entry_at m'.log.entries (length m'.log.entries - 1); state = m'.observer.current })) y)
+    → ((run : Shown) → IsTally run y → IsTally (with_written run (frames_written answer out')) z) → Follows m m' x z
+follows_added m m' out out' answer x y z steps (mix_idles same dry) longer order whole long sizes few first second =
+    absurd (omega (arith, longer, ap (λ (y : MixerState). length y.log.entries) same))
+follows_added m m' out out' answer x y z steps (mix_enters entry is a w) longer order whole long sizes few first second = λ head tracks rounds tally.
+    let run : Shown = shown_at head tracks rounds m in
+    let same_state : m'.observer.current ≡ m.observer.current = ap (λ (o : Observes ServerState StreamNames). o.current) a.takes.observer in
+    let within : steps ≤ most_steps run.frames m'.observer.current =
+    subst (λ (x : ℕ × Option FastState). steps ≤ most_steps x.0 x.1) (λ i. (sym (shown_frames head tracks rounds m) i, sym same_state i)) few in
+    let noted = second (with_entry run (record { entry = entry_at m'.log.entries (length m'.log.entries - 1); state = m'.observer.current }))
+    (first run within tally) in
+    subst (λ (r : Shown). IsTally r z)
+    ((λ i. with_written (with_entry run (record { entry = last_entry m m' entry a i; state = m'.observer.current })) (frames_written (is i) out'))
+    ∙ sym (shown_added head tracks rounds m m' entry out out' order whole long sizes a w)) noted
 
-module _ (m m' : MixerState) (out out' : List Frame) (answer : Cycle) (mixes : MixesOnce m out answer m' out') where
-  still_long : m' ≡ record m { adopted = false } → length m'.log.entries ≡ length m.log.entries
-  still_long same = ap (λ (y : MixerState). length y.log.entries) same
-
-  added_long : (entry : CycleEntry) → AddsCycle m m' entry → length m'.log.entries ≡ length m.log.entries + 1
-  added_long entry a = ap length a.entries ∙ length_push m.log.entries entry
-
-  -- if the log is longer after the mix, an entry was added
-  module _ (longer : length m.log.entries < length m'.log.entries) where
-    one_longer : length m'.log.entries ≡ length m.log.entries + 1
-    one_longer = ⊎_elim (λ (same : m' ≡ record m { adopted = false }). absurd (omega (arith, longer, still_long same)))
-        (λ (x : (entry : CycleEntry) × (answer ≡ entry.cycle) × AddsCycle m m' entry × Writes m' entry out out'). added_long x.0 x.2) (mix_does m m' out out' answer mixes)
-
-    pub follows_added : (x y z : Tallied) (steps : ℕ) → IsInOrder m → IsWhole m.log → length out ≡ m.frames → m'.frames ≡ m.frames → steps ≤ most_steps m.frames m.observer.current
-        → ((run : Shown) → steps ≤ most_steps run.frames m'.observer.current → IsTally run x → IsTally (with_entry run (record { entry = entry_at m'.log.entries (length m'.log.entries - 1); state = m'.observer.current })) y)
-        → ((run : Shown) → IsTally run y → IsTally (with_written run (frames_written answer out')) z) → Follows m m' x z
-    follows_added x y z steps order whole long sizes few first second head = ⊎_elim
-        (λ (same : m' ≡ record m { adopted = false }). absurd (omega (arith, longer, still_long same)))
-        (λ (a : (entry : CycleEntry) × (answer ≡ entry.cycle) × AddsCycle m m' entry × Writes m' entry out out'). λ tracks rounds is.
-        let run : Shown = shown_at head tracks rounds m in
-        let same_state : m'.observer.current ≡ m.observer.current = ap (λ (o : Observes ServerState StreamNames). o.current) a.2.takes.observer in
-        let within : steps ≤ most_steps run.frames m'.observer.current =
-        subst (λ (x : ℕ × Option FastState). steps ≤ most_steps x.0 x.1) (λ i. (sym (shown_frames head tracks rounds m) i, sym same_state i)) few in
-        let noted = second (with_entry run (record { entry = entry_at m'.log.entries (length m'.log.entries - 1); state = m'.observer.current })) (first run within is) in
-        let shown = shown_added head tracks rounds m m' a.0 out out' order whole long sizes a.2 a.3 in
-        let same : with_written (with_entry run (record { entry = entry_at m'.log.entries (length m'.log.entries - 1); state = m'.observer.current })) (frames_written answer out') ≡ shown_at head tracks rounds m' =
-        (λ i. with_written (with_entry run (record { entry = last_entry m m' a.0 a.2 i; state = m'.observer.current })) (frames_written (a.1 i) out')) ∙ sym shown in
-        subst (λ (r : Shown). IsTally r z) same noted)
-        (mix_does m m' out out' answer mixes)
-
-    pub places_added : (x y z : Tallied) (n tracks : ℕ) → Keeps slots 1 x y → Keeps 0 0 y z → HasPlaces n tracks (length m.log.entries) x → HasPlaces n tracks (length m'.log.entries) z
-    places_added x y z n tracks first second p = record {
-      tracks_are = second.tracks ∙ first.tracks ∙ p.tracks_are;
-      looks = (let old = p.looks in let more = first.looks in let last = second.looks in omega (arith, one_longer));
-      cycles = (let old = p.cycles in let more = first.cycles in let last = second.cycles in omega (arith, one_longer));
-    }
-
-  -- if the log is as long after the mix, no entry was added
-  module _ (as_long : length m'.log.entries ≤ length m.log.entries) where
-    is_still : m' ≡ record m { adopted = false }
-    is_still = ⊎_elim (λ (same : m' ≡ record m { adopted = false }). same)
-        (λ (x : (entry : CycleEntry) × (answer ≡ entry.cycle) × AddsCycle m m' entry × Writes m' entry out out'). absurd (omega (arith, as_long, added_long x.0 x.2))) (mix_does m m' out out' answer mixes)
-
-    pub follows_still : (x : Tallied) → Follows m m' x x
-    follows_still x = λ first tracks rounds is. subst (λ (r : Shown). IsTally r x) (sym (shown_still first tracks rounds m m' is_still)) is
-
-    pub places_kept : (x : Tallied) (n tracks : ℕ) → HasPlaces n tracks (length m.log.entries) x → HasPlaces n tracks (length m'.log.entries) x
-    places_kept x n tracks p = subst (λ (k : ℕ). HasPlaces n tracks k x) (sym (still_long is_still)) p
+-- a tally follows a mix that adds no entry, and has its places
+pub noted_still : (m m' : MixerState) (out out' : List Frame) (answer : Cycle) (x : Tallied) → MixDoes m m' out out' answer
+    → length m'.log.entries ≤ length m.log.entries → HasNotedOn m m' x x
+noted_still m m' out out' answer x does as_long = let still = is_still m m' out out' answer does as_long in record {
+  follows = λ first tracks rounds is. subst (λ (r : Shown). IsTally r x) (sym (shown_still first tracks rounds m m' still)) is;
+  places = λ n tracks p. subst (λ (y : MixerState). HasPlaces n tracks (length y.log.entries) x) (sym still) p;
+}

@@ -1,14 +1,10 @@
 -- How what a run shows follows the rounds.
 use Rattle.std.proofs.Common.{◌≡◌, ◌≢◌, ℕ, zero, suc, ◌+◌, ◌-◌, ◌<◌, ◌≤◌, Bool, true, false, if◌then◌else◌, List, [], ◌∷◌, ◌++◌, length, length-set, map, replicate, slice_get, slice_set, Option, Some, None, refl, sym, ap, subst, ◌∙◌, ⊎_elim, append-nil, arith}
-use Rattle.af_session.proofs.Common.{ClientCall, CycleEntry, FastState, Frame, IsTally, Keeps, MixerState, NormalState, PartyState, RoundNoted, Shown, Tallied, Turn, TurnEntry, cases_eq, flat_map, flat_map-append, flat_map-cons, get_or-set_other, get_or-set_same, get_set_same, length-map, length-replicate, map-append, map_same, polled_states, range_with_len, slice_get-map, slice_get_cases, slice_index_or, slots, turn_of, with_calls, with_turn}
+use Rattle.af_session.proofs.Common.{ClientCall, CycleEntry, FastState, Follows, FollowsRound, Frame, HasPlaces, IsTally, Keeps, Met, MixerState, NormalState, PartyState, RoundNoted, SessionState, Shown, Tallied, Turn, TurnEntry, calls_in, calls_over, cases_eq, client_round, end_party, fast_round, flat_map, flat_map-append, flat_map-cons, get_or-set_other, get_or-set_same, get_set_same, length-map, length-replicate, map-append, map_same, normal_round, polled_states, range_with_len, round_told, shown_at, shows, slice_get-map, slice_get_cases, slice_index_or, slots, still_round, turn_in, turn_of, with_calls, with_ends, with_turn}
 use Rattle.std.proofs.lemmas.List.FromFn.{fill_by_all, get_or-map-range_with_len, length-map-range_with_len}
 use Rattle.af_session.proofs.Basics.{calls_end}
 use Rattle.af_script.specs.declared.op.TurnSpec.{TurnSpec}
 use Rattle.af_script.specs.declared.op.TurnSpec.TheVariants as spec
-use Rattle.af_session.specs.Met.{Met}
-use Rattle.af_session.specs.Rounds.{calls_in, client_round, end_party, fast_round, normal_round, round_told, still_round, with_ends}
-use Rattle.af_session.specs.Shown.{Follows, FollowsRound, HasPlaces, calls_over, shown_at, shows, turn_in}
-use Rattle.af_session.specs.Together.{SessionState}
 
 -- the calls of all clients, round by round
 abbrev pub AllCalls : Type 0

@@ -16,5 +16,4 @@ pub mod Following
 pub mod FollowingRounds
 pub mod CarriedOn
 pub mod RoomsKept
-pub mod NotedOn
 pub mod StepsUsed

@@ -1,7 +1,6 @@
 -- What a meeting leaves of a client: all but its lists of events.
 use Rattle.std.proofs.Common.{◌≡◌, ℕ, List, Option, Some, None, refl, sym, subst, ◌∙◌}
-use Rattle.af_session.proofs.Common.{CanWork, ClientState, HandSide, Made, MeetsAway, MeetsStream, Op, PartyState, ServerState, Spot, SpotMet, client_knows, client_made}
-use Rattle.af_session.specs.Met.{TrackMet}
+use Rattle.af_session.proofs.Common.{CanWork, ClientState, HandSide, Made, MeetsAway, MeetsStream, Op, PartyState, ServerState, Spot, SpotMet, TrackMet, client_knows, client_made}
 
 -- the client's proxy learnt something, and is as before in all else
 abbrev pub HasLearnt : ClientState → ClientState → Type 0

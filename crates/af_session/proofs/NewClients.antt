@@ -1,7 +1,6 @@
 -- The clients of the ends of a mixer.
 use Rattle.std.proofs.Common.{◌≡◌, ℕ, ◌<◌, ◌⊎◌, inl, inr, List, [], ◌∷◌, ◌++◌, length, slice_get, Some, sym, ◌∙◌, subst, arith}
-use Rattle.af_session.proofs.Common.{PartyState, TrackEnds, at_before, at_last, cases_eq, length-append, same_Some, slice_get_within, some_at}
-use Rattle.af_session.specs.NewTracks.{AreNewClients, IsClientOf}
+use Rattle.af_session.proofs.Common.{AreNewClients, IsClientOf, PartyState, TrackEnds, at_before, at_last, cases_eq, length-append, same_Some, slice_get_within, some_at}
 
 -- one client more, with its ends
 module _ (ends : List TrackEnds) (clients : List PartyState) (e : TrackEnds) (p : PartyState) (before : AreNewClients ends clients) (one : IsClientOf e p) where

@@ -1,6 +1,6 @@
 -- A client that has done nothing can do its work.
 use Rattle.std.proofs.Common.{◌≡◌, ℕ, ◌≤◌, true, false, List, [], ◌∷◌, length, map, drop, sym, ap, subst, arith}
-use Rattle.af_session.proofs.Common.{All, All-nil, CanWork, ClientCall, Frame, HasOpNumbers, IsFitting, IsFittingOp, IsNewClient, IsShape, IsTrack, Op, PartyState, Roomy, Shape, Side, TrackSpec, cells_of, command_shape, flushes_due, flushes_to_come, frames_due, frames_to_come, most_flushes, new_side, packed_word, side_of_proxy, stream_shape, track_of}
+use Rattle.af_session.proofs.Common.{All, All-nil, CanWork, ClientCall, Frame, HasOpNumbers, IsFitting, IsFittingOp, IsNewClient, IsNewParty, IsShape, IsTrack, Op, PartyState, Roomy, Shape, Side, TrackSpec, cells_of, command_shape, first_track, flushes_due, flushes_to_come, frames_due, frames_to_come, most_flushes, new_side, packed_word, side_of_proxy, stream_shape, track_of}
 use Rattle.af_cblk.specs.declared.view.ClientPart.{ClientPart}
 use Rattle.af_cblk.proofs.Flushes.{most-many}
 use Rattle.af_cblk.proofs.Sized.{wrapped_by}
@@ -8,7 +8,6 @@ use Rattle.af_runs.specs.Clients.{Client, new_client as new_wants}
 use Rattle.af_runs.specs.Kept.{client_of}
 use Rattle.af_runs.specs.declared.want.Want.{Want}
 use Rattle.af_script.specs.declared.op.Op.TheVariants as op
-use Rattle.af_session.specs.NewTracks.{IsNewParty, first_track}
 
 abbrev side_of_part : ClientPart → Side
 side_of_part part = record { shape = part.shape; events = part.events; released = part.frames }

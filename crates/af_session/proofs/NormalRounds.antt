@@ -1,12 +1,9 @@
 -- The turn of the normal mixer in a session, and of the fast mixer.
 use Rattle.std.proofs.Common.{◌≡◌, ℕ, Bool, List, [], true, false, refl, sym, subst}
-use Rattle.af_session.proofs.Common.{NormalState, Outside, RoundNoted, TurnMade, answer_of, turn_of}
+use Rattle.af_session.proofs.Common.{Given, IsFastTurn, NormalState, Outside, RoundNoted, SessionState, TurnMade, Turns, answer_of, fast_round, normal_round, still_round, turn_of}
 use Rattle.std.specs.Bool.{MatchBool}
 use Rattle.af_normal.specs.LegalTurned.{IsLegal}
 use Rattle.af_script.specs.declared.op.TurnSpec.TheVariants as spec
-use Rattle.af_session.specs.FastTurns.{IsFastTurn}
-use Rattle.af_session.specs.Rounds.{Given, Turns, fast_round, normal_round, still_round}
-use Rattle.af_session.specs.Together.{SessionState}
 
 -- the first case of a choice holds if its condition is true
 of_true : (P Q : Type 0) (b : Bool) → b ≡ true → P → MatchBool b P Q

@@ -1,8 +1,7 @@
 -- The sizes of new blocks.
 use Rattle.std.proofs.Common.{◌≡◌, ℕ, ◌*◌, ◌≤◌, ◌==◌, if◌then◌else◌, refl, ap, ◌∙◌, arith}
-use Rattle.af_session.proofs.Common.{IsCommandShape, IsShape, IsStreamShape, Shape, TrackSpec, cells_of, command_shape, stream_shape}
+use Rattle.af_session.proofs.Common.{IsCommandShape, IsShape, IsStreamShape, Shape, TrackSpec, cells_of, command_shape, engine_track, stream_shape}
 use Rattle.af_script.proofs.Cells.{cells_of-next}
-use Rattle.af_session.specs.NewTracks.{engine_track}
 
 -- two shapes are the same if each of their sizes is
 same_shape : (k l : Shape) → k.frames ≡ l.frames → k.cells ≡ l.cells → k.base ≡ l.base → k.wrap ≡ l.wrap → k ≡ l

@@ -34,11 +34,15 @@ pub record WritesCycle (s : SessionState) (answer : Cycle) (bytes : List ℕ) (s
   pub cycle : IsCycle s before answer s' after
   pub bytes_are : bytes ≡ written answer after
 
--- So many cycles, with the bytes that they wrote, or fewer if one of them mixes nothing: it is the last
+-- So many steps one after the other, each as Once says, with the bytes that they wrote, or fewer if one of them mixes nothing: it is the last
+abbrev pub StepsOn : {S : Type 0} → (S → Cycle → List ℕ → S → Type 0) → ℕ → S → List ℕ → S → Type 0
+StepsOn Once zero s bytes s' = (bytes ≡ []) × (s' ≡ s)
+StepsOn {S} Once (suc left) s bytes s' = (answer : Cycle) × (next : S) × (front : List ℕ) × (back : List ℕ) × Once s answer front next × (bytes ≡ front ++ back)
+    × (is_mixed answer ≡ true → StepsOn Once left next back s') × (is_mixed answer ≡ false → (back ≡ []) × (s' ≡ next))
+
+-- so many cycles among the parties, or fewer if one of them mixes nothing
 abbrev pub IsFastTurn : ℕ → SessionState → List ℕ → SessionState → Type 0
-IsFastTurn zero s bytes s' = (bytes ≡ []) × (s' ≡ s)
-IsFastTurn (suc left) s bytes s' = (answer : Cycle) × (next : SessionState) × (front : List ℕ) × (back : List ℕ) × WritesCycle s answer front next × (bytes ≡ front ++ back)
-    × (is_mixed answer ≡ true → IsFastTurn left next back s') × (is_mixed answer ≡ false → (back ≡ []) × (s' ≡ next))
+IsFastTurn count s bytes s' = StepsOn WritesCycle count s bytes s'
 
 -- What a turn of at most so many cycles adds to the log: mixes, and then perhaps one other entry. The sound grows by the same bytes
 pub record TurnAdds (len count : ℕ) (log log' : Logged) (bytes : List ℕ) : Type 0 where

@@ -2,7 +2,6 @@ pub mod Common
 pub mod AloneTurns
 pub mod Zips
 pub mod ReadyOfAll
-pub mod ClientGiven
 pub mod NotedOfAll
 pub mod NotedTurns
 pub mod LogNotes
@@ -10,4 +9,3 @@ pub mod ScribeTurns
 pub mod LogRounds
 pub mod LogMeets
 pub mod LogEnds
-pub mod TurnsOfAll

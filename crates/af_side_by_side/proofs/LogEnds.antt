@@ -1,8 +1,7 @@
 -- What is read of a log behind the last meeting.
 use Rattle.std.proofs.Common.{◌≡◌, ℕ, ◌≤◌, Option, Some, List, [], ◌∷◌, ◌++◌, length, refl, sym, ap, subst, ◌∙◌, append-nil, arith, length-append}
-use Rattle.af_side_by_side.proofs.Common.{AreInOrder, HasDrained, JournalData, Note, ReaderState, WriterState, accepted, read}
+use Rattle.af_side_by_side.proofs.Common.{AreInOrder, AuditorState, HasAudited, HasDrained, HasEnds, HasLogOf, HasMetLog, JournalData, LoggingState, Note, ReaderState, WriterState, accepted, read}
 use Rattle.af_nblog.proofs.Basics.{last_of}
-use Rattle.af_side_by_side.specs.Logging.{AuditorState, HasAudited, HasEnds, HasLogOf, HasMetLog, LoggingState}
 
 -- if as many notes were read as were accepted, they are the same notes
 none_left : (xs ys : List Note) → AreInOrder xs ys → length xs ≤ length ys → ys ≡ xs

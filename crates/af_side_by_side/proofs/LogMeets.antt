@@ -1,7 +1,6 @@
 -- The two ends of a log met.
 use Rattle.std.proofs.Common.{◌≡◌, Option, Some, None, ap, subst, ◌∙◌}
-use Rattle.af_side_by_side.proofs.Common.{Made, ReaderState, WriterState, reader_made, writer_made}
-use Rattle.af_side_by_side.specs.Logging.{AuditorState, HasMetLog, LoggingState, NotesMet}
+use Rattle.af_side_by_side.proofs.Common.{AuditorState, HasMetLog, LoggingState, Made, NotesMet, ReaderState, WriterState, reader_made, writer_made}
 
 -- an option that is None is not Some
 none_some : {X : Type 0} (o : Option X) (x : X) → o ≡ None → o ≡ Some x → ⊥

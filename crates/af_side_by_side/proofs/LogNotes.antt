@@ -1,8 +1,7 @@
 -- The entries that a scribe notes, one after the other.
 use Rattle.std.proofs.Common.{◌≡◌, ℕ, zero, suc, ◌+◌, ◌≤◌, Bool, true, false, List, [], ◌∷◌, ◌++◌, length, drop, refl, sym, ap, ◌∙◌, subst, arith, append_assoc, length-append}
-use Rattle.af_side_by_side.proofs.Common.{CycleEntry, HasNoted, MixerState, Note, Noted, NotedBy, Refused, Sent, WriterState, accepted, append-nil, drop-append-le, drop-append_seam, entry_at, kept, length-drop, note_of, refusals, writer_made}
+use Rattle.af_side_by_side.proofs.Common.{CycleEntry, HasNoted, Logs, MixerState, Note, Noted, NotedBy, Refused, Sent, WriterState, accepted, append-nil, count_refused, drop-append-le, drop-append_seam, entry_at, kept, length-drop, note_of, notes_kept, refusals, writer_made}
 use Rattle.af_cblk.specs.declared.view.ClientPart.{ClientPart}
-use Rattle.af_side_by_side.specs.Logging.{Logs, count_refused, notes_kept}
 
 -- ## One entry
 

@@ -1,9 +1,7 @@
 -- A log goes on by a round: the entries of the round were noted, the other party read, and the two ends met.
 use Rattle.std.proofs.Common.{◌≡◌, ℕ, ◌+◌, ◌≤◌, Bool, MatchOption, Option, Some, None, List, [], ◌∷◌, ◌++◌, length, drop, sym, ap, ◌∙◌, subst, arith, length-append, inl, inr}
-use Rattle.af_side_by_side.proofs.Common.{All-append, All-cons, All-nil, AreInOrder, CycleEntry, HasDrained, IsBetween, Logged, Made, MixerState, Note, ReaderState, Roomy, RoundNoted, WriterState, accepted, append-nil, drop-append_seam, flat_map, map-append, read, reader_made}
+use Rattle.af_side_by_side.proofs.Common.{All-append, All-cons, All-nil, AreEnds, AreInOrder, AuditorState, CycleEntry, HasAudited, HasBothLogged, HasDrained, HasEnds, HasLogged, HasMetLog, IsAuditor, IsBetween, IsLogged, IsScribe, Logged, LoggingState, Logs, LogsPlay, Made, MixerState, Note, ReaderState, Roomy, RoundNoted, ScribeState, WriterState, accepted, append-nil, count_refused, drop-append_seam, flat_map, map-append, most_cycles, no_log, notes_kept, read}
 use Rattle.std.proofs.lemmas.List.Concat.{flat_map-append}
-use Rattle.af_side_by_side.specs.Alone.{most_cycles}
-use Rattle.af_side_by_side.specs.Logging.{AreEnds, AuditorState, HasBothLogged, HasEnds, HasMetLog, IsAuditor, IsLogged, IsScribe, LoggingState, Logs, LogsPlay, ScribeState, count_refused, no_log, notes_kept}
 use Rattle.af_side_by_side.proofs.LogNotes.{kept_count, kept_more, refused_more}
 
 -- the outcomes of all rounds, one after the other
@@ -87,10 +85,9 @@ has_auditor (Some room) m rounds l few h =
 still_none : (first : ℕ) (m : MixerState) (l l' : LoggingState) → no_log l → HasBothLogged first m l l' → no_log l'
 still_none first m l l' none both =
     let scribe : l'.scribe ≡ l.scribe = subst (λ (o : Option WriterState). MatchOption o (l'.scribe ≡ l.scribe) (λ w. (w' : WriterState) × (l'.scribe.end ≡ Some w') × Logs first m w w')) none.1 both.scribe in
-    let auditor : l'.auditor ≡ l.auditor = subst (λ (o : Option ReaderState). MatchOption o (l'.auditor ≡ l.auditor)
-    (λ r. (r' : ReaderState) × (more : List Note) × (l'.auditor ≡ record l.auditor { end = Some r'; notes = record l.auditor.notes { items = l.auditor.notes.items ++ more } }) × (reader_made r' ≡ reader_made r) × (read r' ≡ read r ++ more)
-    × HasDrained l.auditor.room r.pass more r'.pass)) none.2 both.auditor in
-    (both.log ∙ none.0, ap (λ (s : ScribeState). s.end) scribe ∙ none.1, ap (λ (a : AuditorState). a.end) auditor ∙ none.2)
+    let auditor : l'.auditor ≡ record l.auditor { end = None } = subst (λ (o : Option ReaderState). HasAudited
+    (record l.auditor { end = o }) l'.auditor) none.2 both.auditor in
+    (both.log ∙ none.0, ap (λ (s : ScribeState). s.end) scribe ∙ none.1, ap (λ (a : AuditorState). a.end) auditor)
 
 -- the two ends of a log behind their turns
 record Turned (first : ℕ) (m : MixerState) (block : Made) (l l' : LoggingState) (a : HasEnds block l) : Type 0 where
@@ -104,10 +101,8 @@ record Turned (first : ℕ) (m : MixerState) (block : Made) (l l' : LoggingState
 -- the two ends after their turns, if a log is kept
 turned_ends : (first : ℕ) (m : MixerState) (block : Made) (l l' : LoggingState) (a : HasEnds block l) → HasBothLogged first m l l' → Turned first m block l l' a
 turned_ends first m block l l' a both =
-    let scribe = subst (λ (o : Option WriterState). MatchOption o (l'.scribe ≡ l.scribe) (λ w. (w' : WriterState) × (l'.scribe.end ≡ Some w') × Logs first m w w')) a.scribe both.scribe in
-    let auditor = subst (λ (o : Option ReaderState). MatchOption o (l'.auditor ≡ l.auditor)
-    (λ r. (r' : ReaderState) × (more : List Note) × (l'.auditor ≡ record l.auditor { end = Some r'; notes = record l.auditor.notes { items = l.auditor.notes.items ++ more } }) × (reader_made r' ≡ reader_made r) × (read r' ≡ read r ++ more)
-    × HasDrained l.auditor.room r.pass more r'.pass)) a.auditor both.auditor in
+    let scribe = subst (λ (o : Option WriterState). HasLogged first m (record { end = o }) l'.scribe) a.scribe both.scribe in
+    let auditor = subst (λ (o : Option ReaderState). HasAudited (record l.auditor { end = o }) l'.auditor) a.auditor both.auditor in
     record {
       ends = record {
         writer = scribe.0;

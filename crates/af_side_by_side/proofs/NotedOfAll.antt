@@ -1,8 +1,7 @@
 -- What a journal notes of a round of all parties is the same after the meetings.
 use Rattle.std.proofs.Common.{◌≡◌, ℕ, ◌-◌, ◌<◌, if◌then◌else◌, Bool, true, false, List, [], ◌∷◌, length, map, option_map, slice_get, Some, None, refl, sym, ap, ◌∙◌, arith}
-use Rattle.af_side_by_side.proofs.Common.{ClientCall, Logged, NormalState, PartyState, SessionState, end_party, get_or_from_slice_get, length-map, met_keeps, same_lists, slice_get-map, slice_get_within, some_at, turn_of, with_ends}
+use Rattle.af_side_by_side.proofs.Common.{ClientCall, Logged, NormalState, PartyState, SessionState, all_noted, end_party, get_or_from_slice_get, length-map, met_keeps, same_lists, slice_get-map, slice_get_within, some_at, turn_of, with_ends}
 use Rattle.af_session.specs.Met.{Met}
-use Rattle.af_side_by_side.specs.SideBySide.{all_noted}
 
 -- the calls of a client's last turn
 abbrev calls_of : PartyState → List ClientCall

@@ -1,10 +1,9 @@
 -- How what a run shows follows a round of all parties.
 use Rattle.std.proofs.Common.{◌≡◌, ◌≢◌, ℕ, zero, suc, ◌+◌, ◌<◌, ◌≤◌, Bool, true, false, if◌then◌else◌, List, [], ◌∷◌, ◌++◌, length, length-set, map, option_map, get_or, slice_set, Option, Some, None, refl, sym, ap, subst, ◌∙◌, ⊎_elim, arith}
-use Rattle.af_side_by_side.proofs.Common.{AllCalls, ClientCall, CycleEntry, Follows, FollowsRound, Frame, IsTally, MixerState, PartyState, RoundNoted, SessionState, Shown, Tallied, Turn, calls, calls_more, calls_of, calls_over, get_or-set_other, get_or-set_same, get_or_from_slice_get, range_with_len, shown_at, shown_round, shows, shows_tracks, slice_get-get_or, slice_get-map, slice_index_or, states, turn_of, turns, turns_more, turns_still, with_calls, with_turn}
+use Rattle.af_side_by_side.proofs.Common.{AllCalls, ClientCall, CycleEntry, Follows, FollowsRound, Frame, IsTally, MixerState, PartyState, RoundNoted, SessionState, Shown, Tallied, Turn, all_noted, calls, calls_more, calls_of, calls_over, get_or-set_other, get_or-set_same, get_or_from_slice_get, range_with_len, shown_at, shown_round, shows, shows_tracks, slice_get-get_or, slice_get-map, slice_index_or, states, turn_of, turns, turns_more, turns_still, with_all_calls, with_calls, with_turn, with_turn_if}
 use Rattle.std.proofs.lemmas.Bool.{cases_eq}
 use Rattle.std.proofs.lemmas.List.FromFn.{fill_by_all, get_or-map-range_with_len, length-map-range_with_len}
 use Rattle.af_base.specs.declared.state.FastState.{FastState}
-use Rattle.af_side_by_side.specs.SideBySide.{all_noted, with_all_calls, with_turn_if}
 
 -- the calls of the first i clients were noted, and nothing else
 record NotedTo (made : List (List ClientCall)) (i : ℕ) (run run' : Shown) : Type 0 where

@@ -1,10 +1,9 @@
 -- What all parties have for a round in which they make their turns at once, and what they leave.
 use Rattle.std.proofs.Common.{◌≡◌, ℕ, ◌+◌, ◌<◌, ◌^◌, Bool, true, false, List, [], ◌∷◌, length, get_or, slice_get, Option, Some, None, MatchOption, IsSomeAnd, All, refl, sym, ap, subst, ◌∙◌, arith}
-use Rattle.af_side_by_side.proofs.Common.{AllZip, CanCycle, CanWork, Given, IsReady, Links, MatchBool, NormalState, PartyState, Roomy, SessionState, file_at, ops_at, setup_of, slice_get-get_or, slice_get_within, zip_long}
+use Rattle.af_side_by_side.proofs.Common.{AllPlayed, AllZip, AreTogether, CanCycle, CanMixOn, CanTurn, CanWork, ClientPlayed, Given, HasCycledOn, HasMixedOn, HasTurned, IsReady, Links, MatchBool, NormalPlayed, NormalState, PartyState, Roomy, SessionState, TurnPlayed, file_at, ops_at, ready_on, setup_of, slice_get-get_or, slice_get_within, zip_long}
 use Rattle.std.proofs.lemmas.Slice.Zip.{AllZip-right}
 use Rattle.af_life.specs.Kept.{Setup}
 use Rattle.af_normal.specs.Meeting.{AreClientsOf}
-use Rattle.af_side_by_side.specs.SideBySide.{AllPlayed, CanMixOn, CanTurn, ClientPlayed, HasCycledOn, HasMixedOn, HasTurned, NormalPlayed, TurnPlayed}
 
 -- ## Lists that are related place by place
 
@@ -72,28 +71,29 @@ module _ (links : Links) (g : Given) (s t : SessionState) (bytes bytes' : Roomy 
   long : length t.clients ≡ length s.clients
   long = zip_long (HasTurned links g) s.clients t.clients turned
 
-  module _ (n : ℕ) (ready : IsReady links g n s) where
-    tracks_long : length t.normal.tracks ≡ length s.normal.tracks
-    tracks_long =
-        let settings : length t.normal.settings ≡ length s.normal.settings = ap (λ (c : Setup). length c.settings) (same_setup s.normal t.normal mixed.played) in
-        sym mixed.order.tied.sizes.settings ∙ settings ∙ ready.together.normal.tied.sizes.settings
-
-    pub ready_of_all : IsReady links g (n + 1) t
-    ready_of_all = record {
-      together = record {
+  pub ready_of_all : (n : ℕ) → IsReady links g n s → IsReady links g (n + 1) t
+  ready_of_all n ready =
+      let settings : length t.normal.settings ≡ length s.normal.settings = ap (λ (c : Setup). length c.settings) (same_setup s.normal t.normal mixed.played) in
+      let tracks : length t.normal.tracks ≡ length s.normal.tracks = sym mixed.order.tied.sizes.settings ∙ settings
+      ∙ ready.together.normal.tied.sizes.settings in
+      let together : AreTogether links t = record {
         normal = mixed.order;
         fast = (cycled.can.order, cycled.can.linked);
-        count = long ∙ ready.together.count ∙ sym tracks_long;
+        count = long ∙ ready.together.count ∙ sym tracks;
         tracks = (λ i q at. let x = was i q at in x.2.track ∙ ready.together.tracks i x.0 x.1);
         clients = (λ i q at. let x = was i q at in subst (λ (k : ℕ). AreClientsOf links k q.stream q.command) (x.2.track ∙ ready.together.tracks i x.0 x.1) x.2.clients);
-      };
-      between = cycled.can.between;
-      given = (ready.given.0 ∙ sym long, ready.given.1 ∙ sym long);
-      works = (λ i q at. let x = was i q at in subst (λ (k : ℕ). CanWork (ops_at g k) (length (file_at g k)) q) (ready.together.tracks i x.0 x.1) x.2.work);
-      few = (λ i q at. let x = was i q at in let old = ready.few i x.0 x.1 in let new = x.2.few in omega arith);
-      turns = (let old = ready.turns in let new = mixed.turns in omega arith);
-      whole = cycled.can.whole;
-    }
+      } in
+      ready_on g links n s ready 1 (n + 1) t (omega arith) together cycled.can.between cycled.can.whole (record {
+        clients = (λ i q at.
+            let x = was i q at in (
+              x.0,
+              x.1,
+              (λ can. subst (λ (k : ℕ). CanWork (ops_at g k) (length (file_at g k)) q) (ready.together.tracks i x.0 x.1) x.2.work),
+              (let more = x.2.few in omega (arith, more)),
+            ));
+        turns = mixed.turns;
+        tracks = tracks;
+      })
 
   pub played_by_all : AllPlayed links g s t cycled.added
   played_by_all = record {

@@ -1,12 +1,9 @@
 -- What the scribe of a log notes of the cycles of a turn.
-use Rattle.std.proofs.Common.{◌≡◌, ℕ, ◌-◌, ◌<◌, ◌≤◌, ◌==◌, ◌||◌, Bool, true, false, MatchOption, Option, Some, None, List, [], ◌∷◌, ◌++◌, length, refl, sym, ap, subst, ◌∙◌, eqb-true, append-nil, arith}
-use Rattle.af_side_by_side.proofs.Common.{Cycle, CycleEntry, Frame, Links, Logged, MixerState, WriterState, adopted_states, entry_at, get_or_push, is_over, length-append, length_push, no_entry, polled_keeps}
-use Rattle.af_fast.specs.Mixing.{MixesOnce}
+use Rattle.std.proofs.Common.{◌≡◌, ℕ, ◌-◌, ◌<◌, ◌≤◌, false, MatchOption, Option, Some, None, List, [], ◌∷◌, ◌++◌, length, refl, sym, ap, subst, ◌∙◌, append-nil, arith}
+use Rattle.af_side_by_side.proofs.Common.{Cycle, CycleEntry, CyclesOnce, Frame, HasLogged, Links, Logged, Logs, MixDoes, MixerState, ScribeState, WriterState, adopted_states, entry_at, get_or_push, length-append, length_push, mix_does, mix_enters, mix_idles, no_entry, polled_keeps}
 use Rattle.af_fast.specs.Slots.{found}
 use Rattle.af_model.specs.JournalForm.{is_spent}
 use Rattle.af_model.proofs.EntryForms.{entry_form}
-use Rattle.af_side_by_side.specs.Alone.{CyclesOnce}
-use Rattle.af_side_by_side.specs.Logging.{HasLogged, Logs, ScribeState}
 use Rattle.af_side_by_side.proofs.LogNotes.{logged_more, logged_none}
 
 -- ## What a cycle adds
@@ -16,29 +13,16 @@ pub data AddsUpToOne (m m' : MixerState) : Type 0 where
   adds_nothing : m'.log.entries ≡ m.log.entries → AddsUpToOne m m'
   adds_entry : (entry : CycleEntry) → m'.log.entries ≡ m.log.entries ++ entry ∷ [] → is_spent entry.cycle ≡ false → AddsUpToOne m m'
 
--- a call of mix adds at most one entry
-mix_adds_up_to_one : (m m' : MixerState) (out out' : List Frame) (answer : Cycle) → MixesOnce m out answer m' out' → AddsUpToOne m m'
-mix_adds_up_to_one m m' out out' answer x = by_exit m.exited refl
-  where
-    by_length : (full : Bool) → m.exited ≡ false → (length m.log.entries == m.cycles) ≡ full → AddsUpToOne m m'
-    by_length true runs is = adds_nothing (ap (λ (y : MixerState). y.log.entries) (x.spent runs (eqb-true (length m.log.entries) m.cycles is)).1)
-    by_length false runs is =
-        let goes : is_over m ≡ false = ap (λ (b : Bool). b || (length m.log.entries == m.cycles)) runs ∙ is in
-        let done = x.adds goes in
-        adds_entry done.0 done.2.entries (entry_form m.frames (adopted_states m) m.log.entries (length m.log.frames) (found m.observer m.pipe) (found m'.observer m'.pipe) done.0 done.2.legal).kept
-
-    by_exit : (exited : Bool) → m.exited ≡ exited → AddsUpToOne m m'
-    by_exit true is = adds_nothing (ap (λ (y : MixerState). y.log.entries) (x.exited is).1)
-    by_exit false is = by_length (length m.log.entries == m.cycles) is refl
-
 -- a poll adds no entry, so a poll and a mix add at most one
-from_polled : (m p m' : MixerState) → p.log ≡ m.log → AddsUpToOne p m' → AddsUpToOne m m'
-from_polled m p m' same (adds_nothing is) = adds_nothing (is ∙ ap (λ (l : Logged). l.entries) same)
-from_polled m p m' same (adds_entry entry is kept) = adds_entry entry (is ∙ ap (λ (l : Logged). l.entries ++ entry ∷ []) same) kept
+by_mix : (m p m' : MixerState) (out out' : List Frame) (answer : Cycle) → p.log ≡ m.log → MixDoes p m' out out' answer → AddsUpToOne m m'
+by_mix m p m' out out' answer same (mix_idles still dry) = adds_nothing (ap (λ (y : MixerState). y.log.entries) still ∙ ap (λ (l : Logged). l.entries) same)
+by_mix m p m' out out' answer same (mix_enters entry is a w) = adds_entry entry (a.entries ∙ ap (λ (l : Logged). l.entries ++ entry ∷ []) same)
+    (entry_form p.frames (adopted_states p) p.log.entries (length p.log.frames) (found p.observer p.pipe) (found m'.observer m'.pipe) entry a.legal).kept
 
 -- a cycle adds at most one entry
 pub cycle_adds_up_to_one : (links : Links) (m m' : MixerState) (answer : Cycle) (bytes : List ℕ) → CyclesOnce links m answer bytes m' → AddsUpToOne m m'
-cycle_adds_up_to_one links m m' answer bytes w = from_polled m w.polled m' (polled_keeps m w.polled w.adopts).0 (mix_adds_up_to_one w.polled m' w.before w.after answer w.mixes)
+cycle_adds_up_to_one links m m' answer bytes w = by_mix m w.polled m' w.before w.after answer (polled_keeps m w.polled w.adopts).0
+    (mix_does w.polled m' w.before w.after answer w.mixes)
 
 -- a log to which at most one entry was added has its entries before, and perhaps more behind them
 pub grown_by : (m m' : MixerState) → AddsUpToOne m m' → (more : List CycleEntry) × (m'.log.entries ≡ m.log.entries ++ more)

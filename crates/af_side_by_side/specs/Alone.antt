@@ -1,12 +1,12 @@
 -- A turn of the fast mixer while the other parties make theirs: cycles one after the other, with no meeting between them.
-use Rattle.std.specs.Prelude.{◌≡◌, ℕ, zero, suc, ◌++◌, true, false, List, [], length, MatchBool}
+use Rattle.std.specs.Prelude.{◌≡◌, ℕ, List, [], length, MatchBool}
 use Rattle.af_base.specs.declared.frame.Frame.{Frame}
 use Rattle.af_base.specs.declared.log.Cycle.{Cycle}
-use Rattle.af_model.specs.Cycles.{is_mixed}
 use Rattle.af_fast.specs.Mixer.{IsInOrder as IsFastInOrder, IsLinked, MixerState}
 use Rattle.af_fast.specs.Mixing.{Adopts, MixesOnce}
 use Rattle.af_link.specs.declared.links.Links.{Links}
 use Rattle.af_runs.specs.Pcm.{written}
+use Rattle.af_session.specs.FastTurns.{StepsOn}
 
 -- One cycle: a poll and a mix into some buffer that has the frames of a cycle, and the bytes of what was mixed. The mixer is in order over these links after the poll and after the mix
 pub record CyclesOnce (links : Links) (m : MixerState) (answer : Cycle) (bytes : List ℕ) (m' : MixerState) : Type 0 where
@@ -21,11 +21,9 @@ pub record CyclesOnce (links : Links) (m : MixerState) (answer : Cycle) (bytes :
   pub sizes : (m'.frames ≡ m.frames) × (m'.cycles ≡ m.cycles)
   pub bytes_are : bytes ≡ written answer after
 
--- So many cycles, with the bytes that they wrote, or fewer if one of them mixes nothing: it is the last
+-- so many cycles, or fewer if one of them mixes nothing
 abbrev pub CyclesOn : Links → ℕ → MixerState → List ℕ → MixerState → Type 0
-CyclesOn links zero m bytes m' = (bytes ≡ []) × (m' ≡ m)
-CyclesOn links (suc left) m bytes m' = (answer : Cycle) × (next : MixerState) × (front : List ℕ) × (back : List ℕ) × CyclesOnce links m answer front next × (bytes ≡ front ++ back)
-    × (is_mixed answer ≡ true → CyclesOn links left next back m') × (is_mixed answer ≡ false → (back ≡ []) × (m' ≡ next))
+CyclesOn links count m bytes m' = StepsOn (CyclesOnce links) count m bytes m'
 
 -- the most cycles of a turn
 abbrev pub most_cycles : ℕ

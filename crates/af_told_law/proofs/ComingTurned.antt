@@ -1,10 +1,11 @@
 -- What is on its way between the mixers after a turn of the normal mixer that goes on, by what was before it, and where the slots of the observer's state lead.
 use Rattle.std.proofs.Common.{◌≡◌, ◌≢◌, ⊎_elim, ℕ, ◌-◌, ◌<◌, ◌&&◌, not, nat_lt, Bool, true, false, true≢false, is_some, List, [], ◌∷◌, ◌++◌, length, Option, Some, None, refl, sym, ap, subst, ◌∙◌, arith}
-use Rattle.af_told_law.proofs.Common.{AreTogether, FastState, HasStateHistory, IsLegal, Leads, Links, MutatorPoint, NormalState, ObserverPoint, Outside, Polls, Pushes, Run, ServerState, Session, SessionState, StreamNames, Turn, and_parts, at, away_slot, carries, cases_eq, cycle_frames, fold-append, is_pushed, kept_of, lt-ltb, mutated, not-true, observed, observer_next, observer_start, pushed_states, slot_for, slot_number, slots, state_at, track_at, turn_of}
+use Rattle.af_told_law.proofs.Common.{AreTogether, FastState, HasStateHistory, IsLegal, Links, MutatorPoint, NormalState, ObserverPoint, Outside, Polls, Pushes, Run, ServerState, Session, SessionState, StreamNames, Turn, and_parts, at, away_slot, carries, cases_eq, cycle_frames, fold-append, is_pushed, kept_of, lt-ltb, mutated, not-true, observed, observer_next, observer_start, pushed_states, slot_for, slot_number, slots, state_at, track_at, turn_of}
+use Rattle.af_told_law.specs.Leads.{Leads}
 use Rattle.af_model.specs.declared.states.MutatorEvent.TheVariants as mutator
 use Rattle.af_model.specs.declared.states.ObserverEvent.TheVariants as observer
-use Rattle.af_rendering.proofs.NormalSteps.{turned_leads}
-use Rattle.af_rendering.proofs.QueueSeen.{SawUpTo, few_seen}
+use Rattle.af_told_law.proofs.NormalSteps.{turned_leads}
+use Rattle.af_told_law.proofs.QueueSeen.{SawUpTo, few_seen}
 use Rattle.af_told_law.specs.Between.{StandsBefore}
 use Rattle.af_told_law.specs.Places.{IsLentBy, StreamsGo, slot_in, told_by}
 use Rattle.af_told_law.specs.QueueTurned.{QueueKnown}

@@ -1,5 +1,5 @@
 -- The names of other crates that the proofs of this one cite, passed on from one place. Declares nothing.
-pub use Rattle.af_base.proofs.Basics.{and_off, both, get_set_other, get_set_same, half, is_not_below, le-power, neither, not_below_is, or_false, or_right, range_end, some_at}
+pub use Rattle.af_base.proofs.Basics.{and_off, both, get_set_other, get_set_same, half, is_not_below, le-power, neither, no, not_below_is, or_false, or_right, range_end, some_at}
 pub use Rattle.af_base.specs.Command.{code_of}
 pub use Rattle.af_base.specs.Log.{Logged, absent, count_seen, entry_slot, frames_taken, slots}
 pub use Rattle.af_base.specs.Sample.{packed_word}
@@ -25,8 +25,9 @@ pub use Rattle.af_cblk.specs.Rule.{StartsWith}
 pub use Rattle.af_cblk.specs.Sides.{HandSide, Made, client_made, server_made}
 pub use Rattle.af_cblk.specs.declared.view.ClientPart.{ClientPart}
 pub use Rattle.af_cblk.specs.declared.view.ServerPart.{ServerPart}
-pub use Rattle.af_client.specs.Order.{ClientState}
-pub use Rattle.af_engine.specs.Met.{MeetsAway, MeetsFlag, SpotMet, is_slot_of, item_at, or_else, proxies_of, slot_below, spot_of}
+pub use Rattle.af_client.proofs.Kept.{kept-more}
+pub use Rattle.af_client.specs.Order.{ClientState, client_kept_of}
+pub use Rattle.af_engine.specs.Met.{MeetsAway, MeetsFlag, Spot, SpotMet, is_slot_of, item_at, or_else, proxies_of, slot_below, spot_of}
 unfoldable pub use Rattle.af_engine.specs.Met.{slot_for}
 pub use Rattle.af_engine.specs.Shares.{SharedState}
 pub use Rattle.af_enough_law.proofs.TracksKept.{IsQuietlyKept, met_keeps, mix_keeps, poll_keeps, round_alone_keeps}
@@ -42,14 +43,14 @@ pub use Rattle.af_judge.proofs.SoundTurns.{sound_acked}
 pub use Rattle.af_latest.specs.Laws.{last_of, stores}
 pub use Rattle.af_life.proofs.Basics.{at_here, at_new, at_other, at_set, away_holds, returning_away, set_each, slot_of_away, welcomed_at}
 pub use Rattle.af_life.proofs.Lives.{acked_len, mutation_len, not_yet, served_len}
-pub use Rattle.af_life.specs.Edits.{LegalPush, after_ack, after_push, comes_home, commanded_by, edited_to, entered, commands_exit, lent_by, must_enter, must_leave}
+pub use Rattle.af_life.specs.Edits.{LegalPush, after_ack, after_push, comes_home, commanded_by, commands_exit, edited_to, entered, lent_by, must_enter, must_leave, next_command}
 unfoldable pub use Rattle.af_life.specs.Edits.{edited, lend, let_go, ordered, welcomed}
 pub use Rattle.af_life.specs.Heard.{counts_in, heard, heard_at_home, heard_elsewhere, heard_with, is_reported, known_by, learnt, ready, settled_at, slot_reported}
 unfoldable pub use Rattle.af_life.specs.Heard.{heard_by, noted}
-pub use Rattle.af_life.specs.Kept.{Learnt, NormalKept, Outside, Setup, asked, is_home, is_returning, new_track, no_counts, nothing_heard, nothing_seen, number_of, pipe_size, plays, seen_at, setting_of, slot_number, track_at, track_in}
+pub use Rattle.af_life.specs.Kept.{Learnt, NormalKept, Outside, Setup, asked, is_home, is_lent, is_returning, new_normal, new_track, no_counts, nothing_heard, nothing_seen, number_of, pipe_size, plays, seen_at, setting_of, slot_number, track_at, track_in}
 pub use Rattle.af_life.specs.Looks.{LegalLooks, all_command_events, as_slot, command_events, did, takes_command, words_taken}
 pub use Rattle.af_life.specs.Obeys.{holds, shows_command}
-pub use Rattle.af_life.specs.Plays.{LegalTake, after_take, after_takes, look_counted, is_mixed_here, mixed_here, put_by, tracks_due}
+pub use Rattle.af_life.specs.Plays.{LegalTake, after_take, after_takes, is_mixed_here, look_counted, mixed_here, put_by, tracks_due}
 pub use Rattle.af_life.specs.Serves.{IsServed, LegalTrack, after_part, is_found_shut, served_to}
 unfoldable pub use Rattle.af_life.specs.Serves.{served}
 pub use Rattle.af_life.specs.Sound.{IsSound}
@@ -64,13 +65,13 @@ pub use Rattle.af_link.specs.declared.links.Links.{Links}
 pub use Rattle.af_link.specs.declared.names.StreamNames.{StreamNames}
 pub use Rattle.af_model.proofs.Basics.{both_lawful, kept_more, lawful_first, not_true, same_before, same_length, state_next}
 pub use Rattle.af_model.proofs.Splits.{legal_at, ones_append}
-pub use Rattle.af_model.specs.ClientCalls.{IsClientList, client_call_events, client_kept}
-pub use Rattle.af_model.specs.Cycles.{Found, IsSeen, LegalCycle, Listed, LooksBy, Mixes, SubmixSlot, TrackSlot, UseUpTo, events_behind_look, cold_done, cold_of, cycle_events, cycle_of, has_exit, is_cold, is_mixed, kept, last_used, place_of, state_of, still_entry, taken_before, takes_shown}
-pub use Rattle.af_model.specs.Draft.{draft_commanded, detached, initial}
+pub use Rattle.af_model.specs.ClientCalls.{ClientKept, IsClientList, client_call_events, client_kept}
+pub use Rattle.af_model.specs.Cycles.{Found, IsSeen, LegalCycle, Listed, LooksBy, Mixes, SubmixSlot, TrackSlot, UseUpTo, cold_done, cold_of, cycle_events, cycle_of, events_behind_look, has_exit, is_cold, is_mixed, kept, last_used, place_of, state_of, still_entry, taken_before, takes_shown}
+pub use Rattle.af_model.specs.Draft.{detached, draft_commanded, initial}
 pub use Rattle.af_model.specs.History.{Moment, by_hand, by_server, client_of, hand_of, is_lawful, server_of}
 pub use Rattle.af_model.specs.Journals.{EntrySeen, RoundNoted, RoundSeen, entries_seen, frames_of, rounds_seen, slot_frames}
 unfoldable pub use Rattle.af_model.specs.Journals.{taken_by}
-pub use Rattle.af_model.specs.Order.{Event, Legal, point_after, one, ones, two, twos}
+pub use Rattle.af_model.specs.Order.{Event, Legal, one, ones, point_after, two, twos}
 pub use Rattle.af_model.specs.PipeHistory.{HasPipeHistory, PipePoint, releases_of, room_by}
 pub use Rattle.af_model.specs.Point.{wrapped}
 pub use Rattle.af_model.specs.Reports.{IsNextReport, ServerKnown, carried, counted_look, no_report, no_slot, report_at, slot_report}
@@ -88,10 +89,13 @@ pub use Rattle.af_model.specs.declared.shape.Shape.{Shape}
 pub use Rattle.af_model.specs.declared.states.MutatorEvent.{MutatorEvent}
 pub use Rattle.af_model.specs.declared.states.MutatorEvent.TheVariants.{SawAck}
 pub use Rattle.af_model.specs.declared.states.ObserverEvent.{ObserverEvent}
+pub use Rattle.af_model.specs.declared.states.ObserverEvent.TheVariants.{Ack, SawNext}
 pub use Rattle.af_normal.proofs.LegalBegins.{BegunBy, begun_by}
 pub use Rattle.af_normal.proofs.LegalPlays.{StreamTakes, mix_of, words_of}
+pub use Rattle.af_normal.proofs.OrderDone.{stays_all}
 pub use Rattle.af_normal.proofs.OrderEdits.{apart, away_slot, comer_holds, comer_home, comer_inside, comer_slot, leaver_away, leaver_slot, sound_go, sound_lend}
 pub use Rattle.af_normal.proofs.OrderServed.{StaysPut, out_put, stay_put}
+pub use Rattle.af_normal.proofs.OrderSound.{Sound, sound_edits}
 pub use Rattle.af_normal.proofs.OrderStages.{acked_kept, acked_list, acked_same, tied_acked, tied_learnt}
 pub use Rattle.af_normal.specs.Coming.{Welcomes, WelcomesTo, has_back, takes_back}
 pub use Rattle.af_normal.specs.Editing.{Lends, LetsGo, lends, lets_go}
@@ -106,8 +110,7 @@ pub use Rattle.af_normal.specs.TurnMade.{Does, GoesOnBy, Stops, TurnMade, TurnsB
 pub use Rattle.af_normal.specs.Turning.{Begins, HandsTo, HasHands, SeesAck, learnt_by, listed_at, with_mutator, without_hand}
 pub use Rattle.af_normal.specs.declared.turn.Turn.TheVariants.{Ended, Spent, Turned}
 pub use Rattle.af_party.specs.Parties.{PartyState, side_of_proxy, track_of}
-pub use Rattle.af_rendering.specs.Leads.{HasLearnt, InStep, LeadAway, Leads}
-pub use Rattle.af_runs.proofs.Basics.{shown_if, state_more, taken_up}
+pub use Rattle.af_runs.proofs.Basics.{shown_if, state_more, stays_out, taken_up}
 pub use Rattle.af_runs.proofs.StatesFor.{state_adopted, state_known}
 pub use Rattle.af_runs.specs.Blocks.{BlockTold, HasBlockHistory, Marks, client_list, hand_does, is_tame, listed, meets, meets_flag, new_block, server_list}
 pub use Rattle.af_runs.specs.ClientTurns.{Side, Track, after_call, after_calls, is_of_commands}
@@ -117,7 +120,7 @@ pub use Rattle.af_runs.specs.Fronts.{behind, flushed_front, front_by_answer, fro
 pub use Rattle.af_runs.specs.KeptLists.{KeepsClient, KeepsMutator, marked, marked_event}
 pub use Rattle.af_runs.specs.LegalRuns.{is_poke_on, marks_of, session_of}
 pub use Rattle.af_runs.specs.Rounds.{AreMixedBut, HaveHistories, KeepsHistory, LegalEntry, SharedHistories, TrackHistories, found_for, loaded, turned}
-pub use Rattle.af_runs.specs.Runs.{Run, TrackTold, called_in_turn, calls_in, commands_turned, changed_from, each_track, found_before, frames_before, known_of, last_report, mixed_pipe, mixed_track, most_round_cycles, new_run, next_report, next_slot, no_track, pipe_cells, pipe_turned, played, report_of, client_side, sides_of, state_for, stream_met, stream_of, stream_turned, takes_part, told_at, track_met, turned_track, with_looks, with_side}
+pub use Rattle.af_runs.specs.Runs.{Run, TrackTold, called_in_turn, calls_in, changed_from, client_side, commands_turned, each_track, found_before, frames_before, known_of, last_report, mixed_pipe, mixed_track, most_round_cycles, new_run, next_report, next_slot, no_track, pipe_cells, pipe_turned, played, report_of, sides_of, state_for, stream_met, stream_of, stream_turned, takes_part, told_at, track_met, turned_track, with_looks, with_side}
 unfoldable pub use Rattle.af_runs.specs.Runs.{met, with_ends, with_load, with_mix, with_poll, with_turn}
 pub use Rattle.af_runs.specs.Sessions.{Session, command_shape, cycle_frames, no_spec, spec_of, spec_setting, stream_shape, track_count}
 pub use Rattle.af_runs.specs.Told.{Item, PipeTold, QueueTold, ReportTold, brought_by, is_look_at, is_pushed, items_of, mutator_does, observer_does, poll_events, queue_met, report_met, state_at, was_seen}
@@ -125,7 +128,7 @@ pub use Rattle.af_runs.specs.TurnRuns.{calls_alone, cycle_alone, made_alone, met
 pub use Rattle.af_script.specs.Data.{ScriptData}
 pub use Rattle.af_script.specs.declared.op.TurnSpec.{TurnSpec}
 pub use Rattle.af_script.specs.declared.track.TrackSpec.{TrackSpec}
-pub use Rattle.af_server.specs.Order.{ServerState}
+pub use Rattle.af_server.specs.Order.{ServerState, server_kept_of}
 pub use Rattle.af_session.specs.FastTurns.{IsCycle, IsFastTurn, WritesCycle}
 pub use Rattle.af_session.specs.Met.{Met, TrackMet}
 pub use Rattle.af_session.specs.NewSession.{IsNewSession}
@@ -145,7 +148,7 @@ pub use Rattle.std.proofs.lemmas.List.{append_cancel_left, drop-append-le, drop-
 pub use Rattle.std.proofs.lemmas.List.Folds.{list_any-append}
 pub use Rattle.std.proofs.lemmas.List.FromFn.{get_or-map-range_with_len, length-map-range_with_len}
 pub use Rattle.std.proofs.lemmas.List.Sums.{sum_by-append}
-pub use Rattle.std.proofs.lemmas.Option.{get_or_from_slice_get, none-some, same_Some, slice_get-map, slice_get_within}
+pub use Rattle.std.proofs.lemmas.Option.{get_or_from_slice_get, none-some, same_Some, slice_get-map, slice_get_cases, slice_get_within}
 pub use Rattle.std.specs.List.{AllByRecursion, flat_map, list_any, range_with_len}
 pub use Rattle.std.specs.Option.{option_map}
-pub use Rattle.std.specs.Prelude.{MatchBool, MatchOption, drop, max, min, slice_get, slice_index_or, slice_set, sum_by, unwrap_or}
+pub use Rattle.std.specs.Prelude.{All, MatchBool, MatchOption, drop, max, min, slice_get, slice_index_or, slice_set, sum_by, unwrap_or}

@@ -1,5 +1,13 @@
 pub mod Common
 pub mod Basics
+pub mod QueueSeen
+pub mod QueueSteps
+pub mod Leads
+pub mod NormalSteps
+pub mod OneTake
+pub mod Quiet
+pub mod FirstSteps
+pub mod MetOpen
 pub mod NewTold
 pub mod ClientTold
 pub mod BlockMeets

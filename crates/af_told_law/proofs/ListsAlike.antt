@@ -2,7 +2,7 @@
 use Rattle.std.proofs.Common.{◌≡◌, ℕ, ◌<◌, ◌≤◌, ◌&&◌, not, nat_le, Bool, true, false, if◌then◌else◌, List, [], ◌∷◌, ◌++◌, length, length-append, Option, Some, None, refl, sym, ap, ◌∙◌, subst, arith, append_assoc}
 use Rattle.af_told_law.proofs.Common.{AllByRecursion, IsSound, LegalLooks, LegalTurn, Listed, LooksBy, NormalKept, Outside, ServerEvent, Setup, Shape, TakeSeen, TrackKept, Turn, after_edits, all_command_events, asked, command_list, cycle_events, flat_map, front_of, fronts_by, heard, invalid, is_found_shut, is_home, is_mixed_here, learnt, mix_events, status_events, stream_list, take_front, takes_from, track_at, track_in, tracks_at}
 use Rattle.af_base.specs.declared.event.ServerEvent.TheVariants as server
-use Rattle.af_rendering.proofs.OneTake.{one_take}
+use Rattle.af_told_law.proofs.OneTake.{one_take}
 use Rattle.af_told_law.specs.Alike.{TellAlike}
 use Rattle.af_told_law.specs.Outsides.{AreAlike, ListAlike}
 use Rattle.af_told_law.proofs.KeptAlike.{NoDrops}

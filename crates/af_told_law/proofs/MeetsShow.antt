@@ -1,6 +1,7 @@
 -- What meetings show of the servers that took part: each front that they saw is their own.
 use Rattle.std.proofs.Common.{◌≡◌, ℕ, ◌+◌, ◌<◌, ◌≤◌, true, false, true≢false, is_some, List, [], ◌∷◌, ◌++◌, length, slice_get, Option, Some, None, refl, sym, ap, ◌∙◌, subst, arith}
-use Rattle.af_told_law.proofs.Common.{AllSeeOwn, AreClientsOf, AreTogether, ClientEvent, ClientState, FastState, HandEvent, HandSide, IsClientList, IsServerList, LeadAway, Links, Made, Meets, MeetsAll, MeetsAway, MeetsStream, Met, MixerState, PartyState, SeesTaken, ServerEvent, ServerKept, ServerState, SessionState, Shape, SpotMet, TrackKept, TrackMet, at, client_made, is_home, is_lawful, item_at, none-some, proxies_of, same_Some, server_begins, server_keeps, server_made, slice_get_within, slot_for, some_at, spot_of, stream_at, track_at}
+use Rattle.af_told_law.proofs.Common.{AllSeeOwn, AreClientsOf, AreTogether, ClientEvent, ClientState, FastState, HandEvent, HandSide, IsClientList, IsServerList, Links, Made, Meets, MeetsAll, MeetsAway, MeetsStream, Met, MixerState, PartyState, SeesTaken, ServerEvent, ServerKept, ServerState, SessionState, Shape, SpotMet, TrackKept, TrackMet, at, client_made, is_home, is_lawful, item_at, none-some, proxies_of, same_Some, server_begins, server_keeps, server_made, slice_get_within, slot_for, some_at, spot_of, stream_at, track_at}
+use Rattle.af_told_law.specs.Leads.{LeadAway}
 use Rattle.af_base.specs.declared.event.ServerEvent.TheVariants as server
 use Rattle.af_client.specs.Order.{IsInOrder as IsClientInOrder}
 use Rattle.af_link.specs.Names.{IsStreamOf}

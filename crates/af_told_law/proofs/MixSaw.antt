@@ -1,6 +1,7 @@
 -- A mix by the state that the mixer polled, and the frames that each slot took of it, as the run tells of its entry.
 use Rattle.std.proofs.Common.{◌≡◌, ◌≢◌, ⊎_elim, ℕ, ◌<◌, true, true≢false, length, Some, sym, ap, ◌∙◌, arith}
-use Rattle.af_told_law.proofs.Common.{AddsCycle, AreTogether, CycleEntry, FastState, LeadAway, Links, MixerState, Mixes, SessionState, adopted_states, cases_eq, cold_done, cycle_of, found, is_mixed, no_state, state_of}
+use Rattle.af_told_law.proofs.Common.{AddsCycle, AreTogether, CycleEntry, FastState, Links, MixerState, Mixes, SessionState, adopted_states, cases_eq, cold_done, cycle_of, found, is_mixed, no_state, state_of}
+use Rattle.af_told_law.specs.Leads.{LeadAway}
 use Rattle.af_told_law.specs.MixLaws.{entry_told}
 use Rattle.af_told_law.specs.Tells.{SawTold}
 use Rattle.af_told_law.proofs.EntryFrames.{frames_told}

@@ -1,6 +1,7 @@
 -- The proxies of the slots of a mix: each is of a track of the session, in order, and of the same block as before.
 use Rattle.std.proofs.Common.{◌≡◌, ⊎_elim, ℕ, ◌<◌, ◌≤◌, true, true≢false, List, length, slice_get, Option, Some, None, refl, sym, ap, ◌∙◌}
-use Rattle.af_told_law.proofs.Common.{AreTogether, FastState, LeadAway, Links, Made, MixerState, Observes, ServerState, SessionState, StreamNames, TrackKept, at, carries, cases_lt, get_or_past, is_home, new_track, same_Some, server_made, slot_for, slot_number, slot_of, slots, track_at}
+use Rattle.af_told_law.proofs.Common.{AreTogether, FastState, Links, Made, MixerState, Observes, ServerState, SessionState, StreamNames, TrackKept, at, carries, cases_lt, get_or_past, is_home, new_track, same_Some, server_made, slot_for, slot_number, slot_of, slots, track_at}
+use Rattle.af_told_law.specs.Leads.{LeadAway}
 use Rattle.af_engine.proofs.Basics.{some_of}
 use Rattle.af_server.specs.Order.{IsInOrder}
 use Rattle.af_told_law.proofs.SlotHeld.{found_carries, found_track, none_carries}

@@ -1,6 +1,7 @@
 -- What a mix leaves of a stream is told by the run's mix: if each front that its proxy saw is its own, what is told is what it did, and else each front by which it answers so leaves the same.
 use Rattle.std.proofs.Common.{◌≡◌, ℕ, zero, suc, ◌+◌, ◌<◌, ◌==◌, ◌&&◌, not, nat_lt, Bool, true, false, true≢false, if◌then◌else◌, find, fold, is_some, map, List, [], ◌∷◌, ◌++◌, length, Option, Some, None, refl, sym, ap, ◌∙◌, subst, arith, append_assoc, append-nil}
-use Rattle.af_told_law.proofs.Common.{AreTogether, BlockTold, EntrySeen, FastState, LeadAway, Links, LooksBy, MixerState, Moment, NormalState, Observes, ServerEvent, ServerState, Session, SessionState, SlotPlayed, StartsWith, StreamNames, Takes, TrackTold, at, by_server, carries, cycle_events, cycle_frames, entry_slot, front_of, hand_of, is_home, is_mixed, is_shown, is_slot_of, item_at, mixed_track, none-some, observed, or_else, packed_word, played, range_end, range_with_len, server_of, shown_if, slot_below, slot_for, slot_number, slot_of, slots, stream_at, track_at}
+use Rattle.af_told_law.proofs.Common.{AreTogether, BlockTold, EntrySeen, FastState, Links, LooksBy, MixerState, Moment, NormalState, Observes, ServerEvent, ServerState, Session, SessionState, SlotPlayed, StartsWith, StreamNames, Takes, TrackTold, at, by_server, carries, cycle_events, cycle_frames, entry_slot, front_of, hand_of, is_home, is_mixed, is_shown, is_slot_of, item_at, mixed_track, none-some, observed, or_else, packed_word, played, range_end, range_with_len, server_of, shown_if, slot_below, slot_for, slot_number, slot_of, slots, stream_at, track_at}
+use Rattle.af_told_law.specs.Leads.{LeadAway}
 use Rattle.af_runs.specs.Blocks as told_of
 use Rattle.af_runs.specs.Runs.{shows_slot}
 use Rattle.af_runs.specs.Runs as run_of

@@ -1,6 +1,7 @@
 -- A mix is told by the run: the run with it tells the session, and its entry is legal by marks on whose blocks each front seen is the server's own.
 use Rattle.std.proofs.Common.{Bool, List, None, Option, Some, [], ap, append-nil, arith, false, if◌then◌else◌, inl, inr, length, refl, slice_get, subst, sym, true, true≢false, ℕ, ⊎_elim, ◌++◌, ◌<◌, ◌∙◌, ◌≡◌, ◌≤◌, ◌⊎◌}
-use Rattle.af_told_law.proofs.Common.{AddsCycle, AreTogether, BlockTold, Cycle, CycleEntry, EntrySeen, FastState, Frame, HasStateHistory, LeadAway, LegalEntry, Links, LooksBy, Made, Marks, MixerState, PartyState, Run, SeesTaken, ServerEvent, ServerState, Session, SessionState, SlotPlayed, StartsWith, TrackSlot, TrackTold, at, carries, cases_lt, cycle_events, cycle_frames, each_long, entry_slot, is_mixed, item_at, known, known_at, known_of, lawful_front, mixed_pipe, mixed_track, next_report, server_list, slice_get_within, slot_for, slot_of, slots, some_at, state_for, stream_of, told_at, told_each, with_looks, with_mix}
+use Rattle.af_told_law.proofs.Common.{AddsCycle, AreTogether, BlockTold, Cycle, CycleEntry, EntrySeen, FastState, Frame, HasStateHistory, LegalEntry, Links, LooksBy, Made, Marks, MixerState, PartyState, Run, SeesTaken, ServerEvent, ServerState, Session, SessionState, SlotPlayed, StartsWith, TrackSlot, TrackTold, at, carries, cases_lt, cycle_events, cycle_frames, each_long, entry_slot, is_mixed, item_at, known, known_at, known_of, lawful_front, mixed_pipe, mixed_track, next_report, server_list, slice_get_within, slot_for, slot_of, slots, some_at, state_for, stream_of, told_at, told_each, with_looks, with_mix}
+use Rattle.af_told_law.specs.Leads.{LeadAway}
 use Rattle.af_runs.specs.Blocks as told_of
 use Rattle.af_judge.proofs.EntryTracks.{mixed_sides}
 use Rattle.af_told_law.proofs.Basics.{commands_stay}

@@ -6,7 +6,7 @@ use Rattle.af_runs.specs.Sessions.{setup_of}
 use Rattle.af_told_law.specs.NormalLaws.{ShowsFront}
 use Rattle.af_told_law.specs.QueueTurned.{MutatorGoes, QueueKnown}
 use Rattle.af_told_law.specs.Tells.{Tells, TellsFast, TellsNormal, TellsShared}
-use Rattle.af_rendering.proofs.NormalSteps.{all_push}
+use Rattle.af_told_law.proofs.NormalSteps.{all_push}
 use Rattle.af_told_law.proofs.TurnQueue.{known_after, list_told, state_first}
 use Rattle.af_told_law.proofs.TurnShared.{pipe_puts, pipe_takes, twos_same}
 use Rattle.af_told_law.specs.Deeds.{Deeds}

@@ -1,6 +1,7 @@
 -- A poll finds the last state pushed, if its observer had learnt of all pushes: so the poll is told, with the meetings after it.
 use Rattle.std.proofs.Common.{◌≡◌, ◌≢◌, ⊎_elim, ℕ, ◌+◌, ◌≤◌, ◌||◌, Bool, true, false, true≢false, if◌then◌else◌, List, [], ◌∷◌, ◌++◌, length, length-append, Option, Some, None, IfSome, refl, sym, ap, subst, ◌∙◌, append_assoc, arith}
-use Rattle.af_told_law.proofs.Common.{Adopts, AreTogether, Event, FastState, HasStateHistory, HasLearnt, HaveHistories, InStep, LeadAway, Legal, Links, Met, MixerState, MutatorEvent, MutatorPoint, New, NormalState, Nothing, ObserverEvent, ObserverPoint, Observes, Poll, Polls, Pushes, QueuePoint, Run, Same, ServerState, Session, SessionState, StreamNames, TakesIt, WasPolled, acknowledged, point_after, after_ones, after_twos, cases_eq, eq-eqb, eqb-true, false_from_ne_true, fold-append, is_over, is_push, legal, list_any, list_any-append, mutated, mutator_next, mutator_start, next, observed, one, polled_in_order, polled_states, pushed_states, sees_same, sees_the_last, start_of_queue, took, two, with_poll}
+use Rattle.af_told_law.proofs.Common.{Adopts, AreTogether, Event, FastState, HasStateHistory, HaveHistories, Legal, Links, Met, MixerState, MutatorEvent, MutatorPoint, New, NormalState, Nothing, ObserverEvent, ObserverPoint, Observes, Poll, Polls, Pushes, QueuePoint, Run, Same, ServerState, Session, SessionState, StreamNames, TakesIt, WasPolled, acknowledged, point_after, after_ones, after_twos, cases_eq, eq-eqb, eqb-true, false_from_ne_true, fold-append, is_over, is_push, legal, list_any, list_any-append, mutated, mutator_next, mutator_start, next, observed, one, polled_in_order, polled_states, pushed_states, sees_same, sees_the_last, start_of_queue, took, two, with_poll}
+use Rattle.af_told_law.specs.Leads.{HasLearnt, InStep, LeadAway}
 use Rattle.af_model.specs.declared.states.MutatorEvent.TheVariants as mutator
 use Rattle.af_model.specs.declared.states.ObserverEvent.TheVariants as observer
 use Rattle.af_runs.specs.Runs as run_of

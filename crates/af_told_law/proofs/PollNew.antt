@@ -1,6 +1,7 @@
 -- A poll that takes the last state pushed leaves each proxy that is away where the run tells it.
 use Rattle.std.proofs.Common.{◌≡◌, ℕ, ◌+◌, ◌<◌, ◌==◌, ◌&&◌, ◌||◌, not, Bool, true, false, true≢false, if◌then◌else◌, is_some, map, List, [], ◌∷◌, ◌++◌, Option, Some, None, refl, sym, ap, ◌∙◌, subst, arith, append_assoc}
-use Rattle.af_told_law.proofs.Common.{Adopts, AreOf, AreTogether, BlockTold, FastState, FastTrack, IsSettled, IsSound, Item, LeadAway, Links, MixerState, New, NormalState, Nothing, ObserverEvent, ObserverPoint, Observes, Poll, Run, Same, ServerEvent, ServerState, Session, SessionState, StreamNames, TakesIt, WasPolled, acknowledged, and_parts, at, carries, cycle_frames, eq-eqb, fold-append, has, is_home, is_over, item_at, items_of, le-ltb, lt-ltb, map-append, ne_eqb, none-some, not-true, observed, observer_next, observer_start, or_right, poll_events, sees_same, slot_for, slot_number, slot_of, slots, state_at, told_at, took, track_at, with_poll}
+use Rattle.af_told_law.proofs.Common.{Adopts, AreOf, AreTogether, BlockTold, FastState, FastTrack, IsSettled, IsSound, Item, Links, MixerState, New, NormalState, Nothing, ObserverEvent, ObserverPoint, Observes, Poll, Run, Same, ServerEvent, ServerState, Session, SessionState, StreamNames, TakesIt, WasPolled, acknowledged, and_parts, at, carries, cycle_frames, eq-eqb, fold-append, has, is_home, is_over, item_at, items_of, le-ltb, lt-ltb, map-append, ne_eqb, none-some, not-true, observed, observer_next, observer_start, or_right, poll_events, sees_same, slot_for, slot_number, slot_of, slots, state_at, told_at, took, track_at, with_poll}
+use Rattle.af_told_law.specs.Leads.{LeadAway}
 use Rattle.af_model.specs.declared.states.ObserverEvent.TheVariants as observer
 use Rattle.af_told_law.proofs.Basics.{item_within}
 use Rattle.af_told_law.specs.Tells.{FindsLast, Tells, TellsAway, TellsServer, TellsStream, is_coming, is_going, items_given, items_sent, marked_poll, mutated_by, none_comes}

@@ -4,7 +4,7 @@ use Rattle.af_told_law.proofs.Common.{Adds, AllByRecursion, AreTogether, BlockTo
 use Rattle.af_audit.proofs.DoneTracks.{IsDone}
 use Rattle.af_runs.specs.Blocks as told_of
 use Rattle.af_runs.specs.Sessions.{setup_of}
-use Rattle.af_rendering.proofs.Quiet.{IsQuiet}
+use Rattle.af_told_law.specs.Between.{IsQuiet}
 use Rattle.af_told_law.specs.Places.{StreamsStay}
 use Rattle.af_told_law.specs.Tells.{Tells, TellsCommands, TellsServer, TellsStream}
 use Rattle.af_told_law.proofs.ClientTold.{did_same}

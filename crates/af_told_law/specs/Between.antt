@@ -1,14 +1,22 @@
 -- What the two ends of the queue and the slots of states are between two rounds, and before a turn of the normal mixer.
 use Rattle.af_model.specs.StateQueue.{HasStateHistory}
 use Rattle.af_normal.specs.State.{kept_of}
-use Rattle.af_rendering.specs.Leads.{InStep, Leads}
+use Rattle.af_told_law.specs.Leads.{InStep, Leads}
 use Rattle.af_session.specs.Together.{SessionState}
-use Rattle.af_rendering.proofs.Quiet.{IsQuiet}
-use Rattle.af_rendering.specs.Leads as leads
+use Rattle.af_told_law.specs.Leads as leads
 use Rattle.af_stateq.specs.Ends.{Polls, Pushes}
 use Rattle.af_server.specs.Order.{ServerState}
-use Rattle.std.specs.Prelude.{◌<◌, ◌≡◌, ◌≤◌}
+use Rattle.std.specs.List.{AllByRecursion}
+use Rattle.std.specs.Prelude.{◌<◌, ◌≡◌, ◌≤◌, true, false}
+use Rattle.af_audit.proofs.DoneTracks.{IsDone}
+use Rattle.af_life.specs.Edits.{commands_exit}
+use Rattle.af_life.specs.Kept.{NormalKept}
 use Rattle.af_link.specs.declared.names.StreamNames.{StreamNames}
+
+-- a draft that says Exit has only tracks that are done with, and after a push of an Exit there is nothing to push
+pub record IsQuiet (m : NormalKept) : Type 0 where
+  pub over : commands_exit m.draft ≡ true → AllByRecursion IsDone m.tracks
+  pub rests : commands_exit m.last ≡ true → (m.dirty ≡ false) × (commands_exit m.draft ≡ true)
 
 -- the queue's ends are in step, their lists have a history, and the slots of states lead to tracks whose proxies are away. Once the draft says Exit all tracks are done with
 pub record StandsBetween (x : SessionState) : Type 0 where

@@ -1,3 +1,4 @@
+pub mod Leads
 pub mod Alike
 pub mod Deeds
 pub mod Tells

@@ -14,7 +14,7 @@ use Rattle.af_runs.specs.Rounds.{LegalEntry}
 use Rattle.af_runs.specs.Runs.{Run, with_mix}
 use Rattle.af_runs.specs.Sessions.{Session}
 use Rattle.af_runs.specs.Told.{PipeTold}
-use Rattle.af_rendering.specs.Leads.{LeadAway}
+use Rattle.af_told_law.specs.Leads.{LeadAway}
 use Rattle.af_session.specs.Together.{AreTogether, SessionState}
 use Rattle.af_told_law.specs.Tells.{Leaves, Tells, held_slot}
 use Rattle.af_model.specs.StateQueue.{HasStateHistory}

@@ -19,7 +19,7 @@ returns-clause-made g c = λ told.
     let p = c.play-played.ensures in
     let here : Loaded = record { script = c.args.loaded.now.script; files = c.deref.result.now } in
     let same : here ≡ loaded_view c.args.loaded.now = λ k. record { script = c.args.loaded.now.script; files = c.deref.ensures.value k } in
-    let keeps : KeepsPlay here.script here.files c.play-played.result = record { done = p.done; limit = p.limit; spared = p.spared; enough = p.enough } in
+    let keeps : KeepsPlay here.script here.files c.play-played.result = record { done = p.done; limit = p.limit; enough = p.enough } in
     subst (λ (l : Loaded). Makes c.tell-told.result (Ok (play_job c.args.output.now.target.now c.args.output.now.journal.now l)) old new) same
     (Makes-told here c.is_accepted.ensures c.what_follows_of_rounds.ensures c.cycles.result c.cycles.ensures.value c.args.output.now.target.now c.args.output.now.journal.now old mid new c.play-played.result c.tell-told.result keeps (p.files told)
     c.tell-told.ensures.told (c.tell-told.ensures.files (p.tells told)))
@@ -28,7 +28,7 @@ pub returns-clause-line : goal.returns-clause-line
 returns-clause-line g c =
     let p = c.play-played.ensures in
     let here : Loaded = record { script = c.args.loaded.now.script; files = c.deref.result.now } in
-    let keeps : KeepsPlay here.script here.files c.play-played.result = record { done = p.done; limit = p.limit; spared = p.spared; enough = p.enough } in
+    let keeps : KeepsPlay here.script here.files c.play-played.result = record { done = p.done; limit = p.limit; enough = p.enough } in
     some_play_told here c.is_accepted.ensures c.what_follows_of_rounds.ensures c.cycles.result c.play-played.result c.tell-told.result keeps c.tell-told.ensures.told
 
 pub returns-clause-cause : goal.returns-clause-cause
@@ -46,7 +46,7 @@ returns-clause-steps g c = λ told.
     let p = c.play-played.ensures in
     let here : Loaded = record { script = c.args.loaded.now.script; files = c.deref.result.now } in
     let same : here ≡ loaded_view c.args.loaded.now = λ k. record { script = c.args.loaded.now.script; files = c.deref.ensures.value k } in
-    let keeps : KeepsPlay here.script here.files c.play-played.result = record { done = p.done; limit = p.limit; spared = p.spared; enough = p.enough } in
+    let keeps : KeepsPlay here.script here.files c.play-played.result = record { done = p.done; limit = p.limit; enough = p.enough } in
     subst (λ (l : Loaded). CountsOn c.tell-told.result (Ok (play_job c.args.output.now.target.now c.args.output.now.journal.now l)) new c.play-played.new.steps.items) same
     (Counts-told here c.cycles.result c.args.output.now.target.now c.args.output.now.journal.now mid new c.play-played.new.steps.items c.play-played.result c.tell-told.result keeps p.steps
     c.tell-told.ensures.told (c.tell-told.ensures.files (p.tells told)))

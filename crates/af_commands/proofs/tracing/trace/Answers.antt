@@ -20,7 +20,7 @@ returns-clause-made g c = λ told.
     let p = c.play_logged-played.ensures in
     let here : Loaded = record { script = c.args.loaded.now.script; files = c.deref.result.now } in
     let same : here ≡ loaded_view c.args.loaded.now = λ k. record { script = c.args.loaded.now.script; files = c.deref.ensures.value k } in
-    let keeps : KeepsPlay here.script here.files c.play_logged-played.result = record { done = p.done; limit = p.limit; spared = p.spared; enough = p.enough } in
+    let keeps : KeepsPlay here.script here.files c.play_logged-played.result = record { done = p.done; limit = p.limit; enough = p.enough } in
     subst (λ (l : Loaded). Makes c.tell_with_log-told.result (Ok (trace_job c.args.output.now.target.now c.args.output.now.journal.now c.args.output.now.log.now c.args.output.now.room l)) old new) same
     (Makes-logged here c.is_accepted.ensures c.what_follows_of_rounds.ensures c.args.output.now.room c.args.output.now.target.now c.args.output.now.journal.now c.args.output.now.log.now old mid new c.deref-2.result.now c.play_logged-played.new.text.items c.new-text.result.items c.deref-2.ensures.value c.new-text.ensures.items
     c.cycles-cycles.result c.cycles-cycles.ensures.value c.play_logged-played.result c.tell_with_log-told.result keeps (p.files told) p.log.0
@@ -30,7 +30,7 @@ pub returns-clause-line : goal.returns-clause-line
 returns-clause-line g c =
     let p = c.play_logged-played.ensures in
     let here : Loaded = record { script = c.args.loaded.now.script; files = c.deref.result.now } in
-    let keeps : KeepsPlay here.script here.files c.play_logged-played.result = record { done = p.done; limit = p.limit; spared = p.spared; enough = p.enough } in
+    let keeps : KeepsPlay here.script here.files c.play_logged-played.result = record { done = p.done; limit = p.limit; enough = p.enough } in
     some_play_told here c.is_accepted.ensures c.what_follows_of_rounds.ensures c.cycles-cycles.result c.play_logged-played.result c.tell_with_log-told.result keeps c.tell_with_log-told.ensures.told
 
 pub returns-clause-cause : goal.returns-clause-cause
@@ -50,7 +50,7 @@ returns-clause-steps g c = λ told.
     let out = c.args.output.now in
     let here : Loaded = record { script = c.args.loaded.now.script; files = c.deref.result.now } in
     let same : here ≡ loaded_view c.args.loaded.now = λ k. record { script = c.args.loaded.now.script; files = c.deref.ensures.value k } in
-    let keeps : KeepsPlay here.script here.files c.play_logged-played.result = record { done = p.done; limit = p.limit; spared = p.spared; enough = p.enough } in
+    let keeps : KeepsPlay here.script here.files c.play_logged-played.result = record { done = p.done; limit = p.limit; enough = p.enough } in
     subst (λ (l : Loaded). CountsOn c.tell_with_log-told.result (Ok (trace_job out.target.now out.journal.now out.log.now out.room l)) new c.play_logged-played.new.steps.items) same
     (Counts-logged here c.cycles-cycles.result out.target.now out.journal.now mid new c.play_logged-played.new.steps.items out.log.now c.deref-2.result.now out.room c.play_logged-played.result c.tell_with_log-told.result keeps p.steps
     c.tell_with_log-told.ensures.told (c.tell_with_log-told.ensures.files (p.tells told)))

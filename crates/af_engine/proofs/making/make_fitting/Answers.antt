@@ -1,24 +1,13 @@
-use Rattle.std.proofs.Common.{List, length, sym, subst, arith}
-use Rattle.af_engine.proofs.Common.{Made}
-use Rattle.af_engine.specs.NewEnds.{EndStates}
-use Rattle.af_engine.specs.NewTracks.{AreNewTracks, IsNewTrack}
-use Rattle.af_engine.specs.Shares.{SharedState}
+use Rattle.std.proofs.Common.{List, length, sym, subst}
+use Rattle.af_engine.proofs.Common.{AreNewTracks, EndStates, IsNewTrack, Made, SharedState}
 use Rattle.af_engine.proofs.Begins.{settings_are, scales_fit, are_new, together, new_engine}
 use Rattle.af_engine.proofs.making.make_fitting.Goals as goal
-
-pub make_mixers-requires-clause-count : goal.make_mixers-requires-clause-count
-make_mixers-requires-clause-count c =
-    let many = c.in_ok-made.ensures.lists.0 in
-    (omega (arith, many, c.requires.count.0), omega (arith, many, c.requires.count.1))
 
 pub make_mixers-requires-clause-scales : goal.make_mixers-requires-clause-scales
 make_mixers-requires-clause-scales c =
     let specs = c.args.spec.now.tracks.now in
     let made = c.in_ok-made.made in
     scales_fit specs made.tracks.settings (settings_are specs made.streams.items made.commands.items made.clients.items made.tracks c.in_ok-made.ensures) c.requires.tracks
-
-pub make_mixers-requires-clause-ends : goal.make_mixers-requires-clause-ends
-make_mixers-requires-clause-ends c = (c.in_ok-shared.shared, c.in_ok-shared.ensures.ends)
 
 pub returns : goal.returns
 returns c =

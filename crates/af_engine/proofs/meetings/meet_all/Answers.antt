@@ -1,71 +1,44 @@
-use Rattle.std.proofs.Common.{◌≡◌, ◌<◌, ℕ, length, slice_get, slice_index_or, Some, sym, ap, subst, ◌∙◌, arith}
-use Rattle.af_engine.proofs.Common.{AreClientsOf, FastState, MixerState, NormalState, slice_get-get_or}
-use Rattle.af_engine.specs.Met.{Proxies, TrackMet, TracksMet, proxies_of}
-use Rattle.af_engine.specs.declared.ends.TrackEnds.{TrackEnds}
-use Rattle.af_engine.proofs.EndsMeet.{still_met}
-use Rattle.af_engine.proofs.MetTracks.{items_by_number, met_by_number, one_met, others_by_number, still_together}
+use Rattle.std.proofs.Common.{◌≡◌, ◌<◌, ℕ, length, slice_get, slice_index_or, Some, sym, ap, subst, arith}
+use Rattle.af_engine.proofs.Common.{AreClientsOf, TrackEnds, TrackMet, slice_get-get_or}
+use Rattle.af_engine.proofs.MetTracks.{all_met, met_more, still_together}
 use Rattle.af_engine.proofs.meetings.meet_all.Goals as goal
 
-pub meet_client-requires-clause-ends : goal.meet_client-requires-clause-ends
-meet_client-requires-clause-ends g c =
-    let i : ℕ = c.loop-i.i in
-    let inside : i < length c.loop-i.tracks = omega arith in
-    let p : TrackEnds = slice_index_or c.loop-i.tracks i c.index-tracks-i.result in
-    let is : slice_get c.loop-i.tracks i ≡ Some p = slice_get-get_or c.loop-i.tracks i c.index-tracks-i.result inside in
-    let together = c.loop-i.invariant.together in
-    subst (λ (n : ℕ). AreClientsOf c.args.links.now n p.stream p.command) (sym (together.tracks i p is)) (together.clients i p is)
-
-pub meet_client-requires-clause-track : goal.meet_client-requires-clause-track
-meet_client-requires-clause-track g c =
-    let i : ℕ = c.loop-i.i in
-    let inside : i < length c.loop-i.tracks = omega arith in
-    let p : TrackEnds = slice_index_or c.loop-i.tracks i c.index-tracks-i.result in
-    let is : slice_get c.loop-i.tracks i ≡ Some p = slice_get-get_or c.loop-i.tracks i c.index-tracks-i.result inside in
-    let together = c.loop-i.invariant.together in
-    let track : p.track ≡ i = together.tracks i p is in
+pub meet_client-requires : goal.meet_client-requires
+meet_client-requires g c =
+    let l = c.loop-i in
+    let inside : l.i < length l.tracks = omega arith in
+    let p : TrackEnds = slice_index_or l.tracks l.i c.index-tracks-i.result in
+    let is : slice_get l.tracks l.i ≡ Some p = slice_get-get_or l.tracks l.i c.index-tracks-i.result inside in
+    let together = l.invariant.together in
+    let track : p.track ≡ l.i = together.tracks l.i p is in
     let count = together.count in
-    omega (arith, inside, track, count)
+    record {
+      ends = subst (λ (n : ℕ). AreClientsOf c.args.links.now n p.stream p.command) (sym track) (together.clients l.i p is);
+      track = omega (arith, inside, track, count);
+      normal = together.normal;
+      fast = together.fast;
+    }
 
 pub loop-i-preserved : goal.loop-i-preserved
 loop-i-preserved g c =
-    let i : ℕ = c.loop-i.i in
-    let clients = c.loop-i.tracks in
-    let m = c.loop-i.normal in
-    let f = c.loop-i.fast in
-    let n = c.meet_client.new.normal in
-    let h = c.meet_client.new.fast in
-    let q = c.meet_client.new.ends in
-    let inside : i < length clients = omega arith in
-    let p : TrackEnds = slice_index_or clients i c.index-tracks-i.result in
-    let is : slice_get clients i ≡ Some p = slice_get-get_or clients i c.index-tracks-i.result inside in
-    let so_far = c.loop-i.invariant in
+    let l = c.loop-i in
+    let now = c.meet_client.new in
     let done = c.meet_client.ensures in
-    let track : p.track ≡ i = so_far.together.tracks i p is in
-    let m0 = c.meet_ends.new.normal in
-    let f0 = c.meet_ends.new.fast in
-    let x : FastState = f.observer.past.state in
-    let y : FastState = f0.observer.past.state in
-    let state : x ≡ y = ap (λ (z : MixerState). z.observer.past.state) so_far.same_fast in
-    let here = met_by_number TrackMet x y p.track i (proxies_of m f) (proxies_of n h) p q state track done.met in
-    let others = others_by_number x y p.track i (proxies_of m f) (proxies_of n h) state track done.others in
-    let items = items_by_number x y p.track i f.observer.items h.observer.items state track done.items in
+    let inside : l.i < length l.tracks = omega arith in
+    let p : TrackEnds = slice_index_or l.tracks l.i c.index-tracks-i.result in
+    let is : slice_get l.tracks l.i ≡ Some p = slice_get-get_or l.tracks l.i c.index-tracks-i.result inside in
+    let so_far = l.invariant in
+    let track : p.track ≡ l.i = so_far.together.tracks l.i p is in
     record {
-      together = still_together c.args.links.now clients m n f h i p q so_far.together is done.normal done.fast done.same_normal (ap (λ (z : TrackEnds). z.track) done.met.same)
-          (subst (λ (k : ℕ). AreClientsOf c.args.links.now k q.stream q.command) track done.ends);
-      same_normal = done.same_normal ∙ ap (λ (z : NormalState). record z { streams = n.streams; commands = n.commands; hands = n.hands }) so_far.same_normal;
-      same_fast = done.same_fast ∙ ap (λ (z : MixerState). record z { observer = record z.observer { items = h.observer.items } }) so_far.same_fast;
-      met = one_met TrackMet y i c.args.tracks.now clients (proxies_of m0 f0) (proxies_of m f) (proxies_of n h) p q so_far.met is here others items;
+      together = still_together c.args.links.now l.tracks l.normal now.normal l.fast now.fast l.i p now.ends so_far.together is done.normal done.fast
+          done.same_normal (ap (λ (z : TrackEnds). z.track) done.met.same)
+          (subst (λ (k : ℕ). AreClientsOf c.args.links.now k now.ends.stream now.ends.command) track done.ends);
+      met = met_more TrackMet l.i p.track c.args.tracks.now l.tracks c.meet_ends.new.normal l.normal now.normal c.meet_ends.new.fast l.fast now.fast p now.ends
+          so_far.met is track done.same_normal done.same_fast done.met done.others done.items;
     }
 
 pub returns-clause-met : goal.returns-clause-met
 returns-clause-met g c =
-    let so_far = c.loop-i.invariant in
-    let ends = c.meet_ends.ensures in
-    let m0 = c.meet_ends.new.normal in
-    let f0 = c.meet_ends.new.fast in
-    let all : c.loop-i.i ≡ length c.args.tracks.now = omega arith in
-    let state : f0.observer.past.state ≡ c.args.fast.now.observer.past.state = ap (λ (z : MixerState). z.observer.past.state) ends.met.fast in
-    record {
-      ends = still_met c.args.normal.now m0 c.loop-i.normal c.args.fast.now f0 c.loop-i.fast ends.met so_far.same_normal so_far.same_fast;
-      tracks = subst (λ (z : FastState × ℕ × Proxies). TracksMet TrackMet z.0 z.1 c.args.tracks.now c.loop-i.tracks z.2 (proxies_of c.loop-i.normal c.loop-i.fast)) (λ j. (state j, all j, ends.same j)) so_far.met;
-    }
+    let both = all_met TrackMet c.loop-i.i c.args.tracks.now c.loop-i.tracks c.args.normal.now c.meet_ends.new.normal c.loop-i.normal c.args.fast.now
+    c.meet_ends.new.fast c.loop-i.fast (omega arith) c.meet_ends.ensures.met c.meet_ends.ensures.same c.loop-i.invariant.met in
+    record { ends = both.0; tracks = both.1 }

@@ -1,12 +1,9 @@
-use Rattle.std.proofs.Common.{◌≡◌}
-use Rattle.af_engine.specs.Met.{TrackMet, TracksMet, proxies_of}
-use Rattle.af_engine.specs.Engines.{AreTogether}
+use Rattle.af_engine.proofs.Common.{AreTogether, TrackMet}
+use Rattle.af_engine.proofs.MetTracks.{MetSoFar}
 use Rattle.af_engine.proofs.meetings.meet_all.Given as goal
 
 abbrev pub invariant-loop-i : goal.invariant-loop-i
 invariant-loop-i g l = record {
   together : AreTogether l.links (record { tracks = l.tracks; normal = l.normal; fast = l.fast });
-  same_normal : l.normal ≡ record l.initial.normal { streams = l.normal.streams; commands = l.normal.commands; hands = l.normal.hands };
-  same_fast : l.fast ≡ record l.initial.fast { observer = record l.initial.fast.observer { items = l.fast.observer.items } };
-  met : TracksMet TrackMet l.initial.fast.observer.past.state l.i l.initial.tracks l.tracks (proxies_of l.initial.normal l.initial.fast) (proxies_of l.normal l.fast);
+  met : MetSoFar TrackMet l.i l.initial.tracks l.tracks l.initial.normal l.normal l.initial.fast l.fast;
 }

@@ -1,6 +1,5 @@
 use Rattle.std.proofs.Common.{◌≡◌, ◌∙◌, ◌==◌, sym, subst, ℕ, None, arith}
-use Rattle.af_engine.proofs.Common.{and_from, carries, eq-eqb, slot_of, slots}
-use Rattle.af_engine.specs.Met.{slot_below}
+use Rattle.af_engine.proofs.Common.{and_from, carries, eq-eqb, slot_below, slot_of, slots}
 use Rattle.af_engine.proofs.MetSlots.{found_at, none_found}
 use Rattle.af_engine.proofs.meetings.slot_in.Goals as goal
 

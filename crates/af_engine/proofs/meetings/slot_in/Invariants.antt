@@ -1,5 +1,5 @@
 use Rattle.std.proofs.Common.{◌≡◌, None}
-use Rattle.af_engine.specs.Met.{slot_below}
+use Rattle.af_engine.proofs.Common.{slot_below}
 use Rattle.af_engine.proofs.meetings.slot_in.Given as goal
 
 abbrev pub invariant-loop-slot : goal.invariant-loop-slot

@@ -1,15 +1,7 @@
 use Rattle.std.proofs.Common.{◌≡◌, ◌+◌, ◌<◌, List, [], ◌∷◌, ◌++◌, length, sym, ap, ◌∙◌, subst}
-use Rattle.af_engine.proofs.Common.{Made, TrackList, slice_get-get_or, with_track}
-use Rattle.af_engine.specs.declared.ends.TrackEnds.{TrackEnds}
-use Rattle.af_engine.specs.NewTracks.{AreNewTracks, IsNewTrack}
-use Rattle.af_engine.proofs.MoreTracks.{no_tracks, one_track_more}
+use Rattle.af_engine.proofs.Common.{AreNewTracks, IsNewTrack, Made, TrackEnds, TrackList, slice_get-get_or, with_track}
+use Rattle.af_engine.proofs.MoreTracks.{one_track_more}
 use Rattle.af_engine.proofs.tracks.new_tracks.Goals as goal
-
-pub loop-index-init : goal.loop-index-init
-loop-index-init c =
-    let made = c.empty-made.result in
-    let none = c.empty-made.ensures in
-    no_tracks IsNewTrack c.args.specs.now made.streams.items made.commands.items made.clients.items made.tracks none.blocks.0 none.blocks.1 none.parties.0 none.parties.1
 
 pub loop-index-preserved : goal.loop-index-preserved
 loop-index-preserved c =

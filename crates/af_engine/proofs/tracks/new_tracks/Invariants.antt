@@ -1,4 +1,4 @@
-use Rattle.af_engine.specs.NewTracks.{AreNewTracks, IsNewTrack}
+use Rattle.af_engine.proofs.Common.{AreNewTracks, IsNewTrack}
 use Rattle.af_engine.proofs.tracks.new_tracks.Given as goal
 
 abbrev pub invariant-loop-index : goal.invariant-loop-index

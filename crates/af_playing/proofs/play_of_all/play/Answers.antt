@@ -17,7 +17,6 @@ returns-in_err-logging g c =
     record {
       done = keeps.done;
       limit = keeps.limit;
-      spared = keeps.spared;
       enough = keeps.enough;
       in_time = ends_in_time p.script.now p.files.now;
       files = (λ told. files_none p.script.now p.files.now p.name.now old old c.from_residual.result fault.Memory refl c.from_residual.ensures.1 (inl (λ name. refl)));
@@ -33,7 +32,6 @@ returns g c =
     record {
       done = keeps.done;
       limit = keeps.limit;
-      spared = keeps.spared;
       enough = keeps.enough;
       in_time = ends_in_time c.args.piece.now.script.now c.args.piece.now.files.now;
       files = c.play_with.ensures.files;

@@ -31,7 +31,6 @@ returns-in_err-logging g c =
     record {
       done = keeps.done;
       limit = keeps.limit;
-      spared = keeps.spared;
       enough = keeps.enough;
       in_time = ends_in_time p.script.now p.files.now;
       files = (λ told. files_none p.script.now p.files.now p.name.now old old c.from_residual.result fault.Memory refl c.from_residual.ensures.1 (inl (λ name. refl)));
@@ -54,7 +53,6 @@ returns g c =
     record {
       done = keeps.done;
       limit = keeps.limit;
-      spared = keeps.spared;
       enough = keeps.enough;
       in_time = ends_in_time p.script.now p.files.now;
       files = (λ known. files_on p.script.now p.files.now played.result done.result p.name.now (g.S.Store.files c.args.store.now) (g.S.Store.files played.new.store) handed (played.ensures.files known));

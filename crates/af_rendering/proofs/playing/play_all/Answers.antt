@@ -6,7 +6,6 @@ use Rattle.af_rendering.proofs.NotedRounds.{cause_on}
 use Rattle.af_rendering.proofs.Outgoing.{on_err, on_ok, stays_at}
 use Rattle.af_rendering.proofs.RunMore.{run_more}
 use Rattle.af_rendering.proofs.ShownWhole.{places_first}
-use Rattle.af_rendering.proofs.SparedFast.{fast_round_spares}
 use Rattle.af_rendering.proofs.TurnsPlayed.{SoFar, all_played, noted_of, so_far_more, so_far_none}
 use Rattle.af_rendering.proofs.Waiting.{all_out, none_wait}
 use Rattle.af_rendering.proofs.playing.play_all.Goals as goal
@@ -20,7 +19,6 @@ loop-i-init g c =
       ready = c.requires.ready;
       far = ([], so_far_none given was c.args.room.now.tally c.requires.log.0 c.requires.log.1 c.requires.tally);
       places = places_first was.fast.frames tracks (length was.clients) (length was.fast.log.entries) c.args.room.now.tally (sym c.requires.ready.given.0) c.requires.tally;
-      entries = (λ new. new);
       frames = refl;
       room = c.requires.room;
       kept = record { buffer = refl; bytes = refl; released = refl };
@@ -47,12 +45,10 @@ loop-i-preserved g c =
     let round = out.round in
     let grown : pcm_of frames now.fast.log ++ round.0 ≡ pcm_of frames next.fast.log =
     subst (λ (n : ℕ). pcm_of n now.fast.log ++ round.0 ≡ pcm_of n next.fast.log) inv.frames round.2 in
-    let after : IsReady c.args.rig.now.links given (i + 1) next = out.carried.ready i inv.ready in
     record {
-      ready = after;
-      far = (_, so_far_more c.args.rig.now.links _ given c.args.turns.now i c.args.parties.now now next inv.far.0 c.loop-i.room.tally c.play_out.new.room.tally (omega (arith, c.loop-i-test.true, c.loop-i.auto.i-end)) inv.ready after inv.far.1 round.0 round.1 grown out.frames out.numbers out.carried.tally);
+      ready = out.carried.ready i inv.ready;
+      far = (_, so_far_more c.args.rig.now.links _ given c.args.turns.now i c.args.parties.now now next inv.far.0 c.loop-i.room.tally c.play_out.new.room.tally (omega (arith, c.loop-i-test.true, c.loop-i.auto.i-end)) inv.ready inv.far.1 round.0 round.1 grown out.frames out.numbers out.carried.tally);
       places = out.carried.places i inv.places;
-      entries = (λ new. fast_round_spares c.args.rig.now.links given i now inv.ready next after round.0 (inv.entries new) _ _ round.1);
       frames = out.carried.sizes.0 ∙ inv.frames;
       room = out.room;
       kept = kept_on c.args.room.now c.loop-i.room c.play_out.new.room inv.kept out.carried.kept;
@@ -79,7 +75,6 @@ returns-in_err-play_out g c = record {
       (i + 1, _, run_more _ given c.args.turns.now i c.args.parties.now now next inv.far.0 (omega (arith, c.loop-i-test.true, c.loop-i.auto.i-end)) inv.far.1.run _ round.0 round.1 grown));
   all = IfOk-from_err c.from_residual.result _ c.from_residual.ensures.0;
   frames = IfOk-from_err c.from_residual.result _ c.from_residual.ensures.0;
-  entries = (λ new. IfOk-from_err c.from_residual.result _ c.from_residual.ensures.0);
   kept = kept_on c.args.room.now c.loop-i.room c.play_out.new.room c.loop-i.invariant.kept c.play_out.ensures.carried.kept;
   sent = (λ told base set.
       let inv = c.loop-i.invariant in
@@ -114,7 +109,6 @@ returns g c =
       run = (c.loop-i.i, inv.far.0, inv.far.1.run);
       all = on_ok r (noted_of given inv.far.0, all_played c.args.rig.now.links given (length c.args.turns.now) c.args.turns.now was inv.far.0 is c.loop-i.room.tally ready far samples entries);
       frames = on_ok r inv.frames;
-      entries = (λ new. on_ok r (inv.entries new));
       kept = (let none = ap (λ (b : Roomy ℕ). b.room) c.send_waiting.ensures.none in record { buffer = inv.kept.buffer; bytes = none ∙ inv.kept.bytes; released = inv.kept.released });
       sent = (λ told base set.
           let sound : List ℕ = pcm_of was.fast.frames is.fast.log in

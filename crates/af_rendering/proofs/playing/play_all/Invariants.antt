@@ -1,6 +1,5 @@
 use Rattle.std.proofs.Common.{◌≡◌, List, Some, take}
 use Rattle.af_rendering.proofs.Common.{Files, HasPlacesAt, IsReadyOn, KeepsRoom, RoundNoted, SetsFile, given_of, pcm_of}
-use Rattle.af_rendering.specs.FastSpared.{FastSparesSoFar}
 use Rattle.af_rendering.specs.Rendered.{HoldsBut}
 use Rattle.af_rendering.specs.Stages.{HasRoomToWait}
 use Rattle.af_rendering.proofs.TurnsPlayed.{SoFar}
@@ -11,7 +10,6 @@ invariant-loop-i g l = record {
   ready : IsReadyOn l.rig l.i l.parties;
   far : (rounds : List RoundNoted) × SoFar (given_of l.rig) (take l.i l.turns) l.fn.parties rounds l.parties l.room.tally;
   places : HasPlacesAt l.i l.parties l.room.tally;
-  entries : FastSparesSoFar l.fn.parties → FastSparesSoFar l.parties;
   frames : l.parties.fast.frames ≡ l.fn.parties.fast.frames;
   room : HasRoomToWait l.parties l.room;
   kept : KeepsRoom l.fn.room l.room;

@@ -4,8 +4,6 @@ use Rattle.af_rendering.specs.declared.rendering.Outcome.{Outcome}
 use Rattle.af_rendering.specs.Rendered.{LeavesSound}
 use Rattle.af_rendering.proofs.JournalSound.{journal_sounds}
 use Rattle.af_rendering.proofs.ShownWhole.{steps_told}
-use Rattle.af_rendering.proofs.Spared.{spares_told}
-use Rattle.af_rendering.proofs.SparedEntries.{entries_told}
 use Rattle.af_rendering.proofs.Outgoing.{calm_memory, calm_ok, cause_same, on_err}
 use Rattle.af_rendering.proofs.rendering.render.Goals as goal
 
@@ -55,8 +53,6 @@ returns-in-Ok-clause-played g c =
         };
         summary_is = c.close.ensures.summary c.args.script.now rounds have.noted;
         few = steps_told frames rounds log events s.room.tally journal ends c.steps.result.items have.noted.whole refl pushed have.noted.tally c.steps.ensures;
-        spared = spares_told frames rounds log events journal ends have.noted.whole refl pushed have.noted.spared;
-        entries = entries_told frames rounds log events journal ends have.noted.whole refl pushed have.entries;
       },
       (λ told. subst (λ (xs : List ℕ). SetsFile (g.S.Store.files c.args.store.now) c.args.name.now (Some xs) (g.S.Store.files c.play_new.new.store)) (sym sounds) (c.in-Ok.ensures.written told)),
     )

@@ -1,8 +1,7 @@
 use Rattle.std.proofs.Common.{subst, ◌∙◌, map}
-use Rattle.af_session.proofs.Common.{IsMakeCause, MixerSpec}
+use Rattle.af_session.proofs.Common.{IsMakeCause, MixerSpec, engine_track}
 use Rattle.af_engine.specs.declared.spec.MakeError.{MakeError}
 use Rattle.af_engine.proofs.Specs.{no_cause}
-use Rattle.af_session.specs.NewTracks.{engine_track}
 use Rattle.af_session.proofs.Begins.{spec_fits}
 use Rattle.af_session.proofs.making.make_ends.Goals as goal
 

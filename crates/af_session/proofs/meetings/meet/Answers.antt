@@ -1,70 +1,44 @@
-use Rattle.std.proofs.Common.{◌≡◌, ◌<◌, ℕ, length, slice_get, slice_index_or, Some, sym, ap, subst, ◌∙◌, arith}
-use Rattle.af_session.proofs.Common.{AreClientsOf, FastState, MixerState, NormalState, PartyState, Proxies, TracksMet, items_by_number, met_by_number, one_met, others_by_number, proxies_of, slice_get-get_or}
-use Rattle.af_session.specs.Met.{TrackMet}
-use Rattle.af_engine.proofs.EndsMeet.{still_met}
+use Rattle.std.proofs.Common.{◌≡◌, ◌<◌, ℕ, length, slice_get, slice_index_or, Some, sym, ap, subst, arith}
+use Rattle.af_session.proofs.Common.{AreClientsOf, PartyState, TrackMet, all_met, met_more, slice_get-get_or}
 use Rattle.af_session.proofs.MetTracks.{still_together}
 use Rattle.af_session.proofs.meetings.meet.Goals as goal
 
-pub meet_party-requires-clause-party : goal.meet_party-requires-clause-party
-meet_party-requires-clause-party g c =
-    let i : ℕ = c.loop-i.i in
-    let inside : i < length c.loop-i.clients = omega arith in
-    let p : PartyState = slice_index_or c.loop-i.clients i c.index-clients-i.result in
-    let is : slice_get c.loop-i.clients i ≡ Some p = slice_get-get_or c.loop-i.clients i c.index-clients-i.result inside in
-    let together = c.loop-i.invariant.together in
-    subst (λ (n : ℕ). AreClientsOf c.args.links.now n p.stream p.command) (sym (together.tracks i p is)) (together.clients i p is)
-
-pub meet_party-requires-clause-track : goal.meet_party-requires-clause-track
-meet_party-requires-clause-track g c =
-    let i : ℕ = c.loop-i.i in
-    let inside : i < length c.loop-i.clients = omega arith in
-    let p : PartyState = slice_index_or c.loop-i.clients i c.index-clients-i.result in
-    let is : slice_get c.loop-i.clients i ≡ Some p = slice_get-get_or c.loop-i.clients i c.index-clients-i.result inside in
-    let together = c.loop-i.invariant.together in
-    let track : p.track ≡ i = together.tracks i p is in
+pub meet_party-requires : goal.meet_party-requires
+meet_party-requires g c =
+    let l = c.loop-i in
+    let inside : l.i < length l.clients = omega arith in
+    let p : PartyState = slice_index_or l.clients l.i c.index-clients-i.result in
+    let is : slice_get l.clients l.i ≡ Some p = slice_get-get_or l.clients l.i c.index-clients-i.result inside in
+    let together = l.invariant.together in
+    let track : p.track ≡ l.i = together.tracks l.i p is in
     let count = together.count in
-    omega (arith, inside, track, count)
+    record {
+      party = subst (λ (n : ℕ). AreClientsOf c.args.links.now n p.stream p.command) (sym track) (together.clients l.i p is);
+      track = omega (arith, inside, track, count);
+      normal = together.normal;
+      fast = together.fast;
+    }
 
 pub loop-i-preserved : goal.loop-i-preserved
 loop-i-preserved g c =
-    let i : ℕ = c.loop-i.i in
-    let clients = c.loop-i.clients in
-    let m = c.loop-i.normal in
-    let f = c.loop-i.fast in
-    let n = c.meet_party.new.normal in
-    let h = c.meet_party.new.fast in
-    let q = c.meet_party.new.party in
-    let inside : i < length clients = omega arith in
-    let p : PartyState = slice_index_or clients i c.index-clients-i.result in
-    let is : slice_get clients i ≡ Some p = slice_get-get_or clients i c.index-clients-i.result inside in
-    let so_far = c.loop-i.invariant in
+    let l = c.loop-i in
+    let now = c.meet_party.new in
     let done = c.meet_party.ensures in
-    let track : p.track ≡ i = so_far.together.tracks i p is in
-    let m0 = c.meet_ends.new.normal in
-    let f0 = c.meet_ends.new.fast in
-    let x : FastState = f.observer.past.state in
-    let y : FastState = f0.observer.past.state in
-    let state : x ≡ y = ap (λ (z : MixerState). z.observer.past.state) so_far.same_fast in
-    let here = met_by_number TrackMet x y p.track i (proxies_of m f) (proxies_of n h) p q state track done.met in
-    let others = others_by_number x y p.track i (proxies_of m f) (proxies_of n h) state track done.others in
-    let items = items_by_number x y p.track i f.observer.items h.observer.items state track done.items in
+    let inside : l.i < length l.clients = omega arith in
+    let p : PartyState = slice_index_or l.clients l.i c.index-clients-i.result in
+    let is : slice_get l.clients l.i ≡ Some p = slice_get-get_or l.clients l.i c.index-clients-i.result inside in
+    let so_far = l.invariant in
+    let track : p.track ≡ l.i = so_far.together.tracks l.i p is in
     record {
-      together = still_together c.args.links.now clients m n f h i p q so_far.together is done.normal done.fast done.same_normal (ap (λ (z : PartyState). z.track) done.met.same)
-          (subst (λ (k : ℕ). AreClientsOf c.args.links.now k q.stream q.command) track done.party);
-      same_normal = done.same_normal ∙ ap (λ (z : NormalState). record z { streams = n.streams; commands = n.commands; hands = n.hands }) so_far.same_normal;
-      same_fast = done.same_fast ∙ ap (λ (z : MixerState). record z { observer = record z.observer { items = h.observer.items } }) so_far.same_fast;
-      met = one_met TrackMet y i c.args.clients.now clients (proxies_of m0 f0) (proxies_of m f) (proxies_of n h) p q so_far.met is here others items;
+      together = still_together c.args.links.now l.clients l.normal now.normal l.fast now.fast l.i p now.party so_far.together is done.normal done.fast
+          done.same_normal (ap (λ (z : PartyState). z.track) done.met.same)
+          (subst (λ (k : ℕ). AreClientsOf c.args.links.now k now.party.stream now.party.command) track done.party);
+      met = met_more TrackMet l.i p.track c.args.clients.now l.clients c.meet_ends.new.normal l.normal now.normal c.meet_ends.new.fast l.fast now.fast p
+          now.party so_far.met is track done.same_normal done.same_fast done.met done.others done.items;
     }
 
 pub returns-clause-met : goal.returns-clause-met
 returns-clause-met g c =
-    let so_far = c.loop-i.invariant in
-    let ends = c.meet_ends.ensures in
-    let m0 = c.meet_ends.new.normal in
-    let f0 = c.meet_ends.new.fast in
-    let all : c.loop-i.i ≡ length c.args.clients.now = omega arith in
-    let state : f0.observer.past.state ≡ c.args.fast.now.observer.past.state = ap (λ (z : MixerState). z.observer.past.state) ends.met.fast in
-    record {
-      ends = still_met c.args.normal.now m0 c.loop-i.normal c.args.fast.now f0 c.loop-i.fast ends.met so_far.same_normal so_far.same_fast;
-      tracks = subst (λ (z : FastState × ℕ × Proxies). TracksMet TrackMet z.0 z.1 c.args.clients.now c.loop-i.clients z.2 (proxies_of c.loop-i.normal c.loop-i.fast)) (λ j. (state j, all j, ends.same j)) so_far.met;
-    }
+    let both = all_met TrackMet c.loop-i.i c.args.clients.now c.loop-i.clients c.args.normal.now c.meet_ends.new.normal c.loop-i.normal c.args.fast.now
+    c.meet_ends.new.fast c.loop-i.fast (omega arith) c.meet_ends.ensures.met c.meet_ends.ensures.same c.loop-i.invariant.met in
+    record { ends = both.0; tracks = both.1 }

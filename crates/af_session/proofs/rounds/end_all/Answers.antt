@@ -1,6 +1,5 @@
 use Rattle.std.proofs.Common.{◌<◌, length, get_or, slice_set, ap, ◌∙◌, arith}
-use Rattle.af_session.proofs.Common.{PartyState, slice_get-get_or}
-use Rattle.af_session.specs.Rounds.{end_party}
+use Rattle.af_session.proofs.Common.{PartyState, end_party, slice_get-get_or}
 use Rattle.af_session.proofs.MapMore.{map_more}
 use Rattle.af_session.proofs.rounds.end_all.Goals as goal
 

@@ -1,5 +1,5 @@
 use Rattle.std.proofs.Common.{◌≡◌, ◌++◌, take, drop, map}
-use Rattle.af_session.specs.Rounds.{end_party}
+use Rattle.af_session.proofs.Common.{end_party}
 use Rattle.af_session.proofs.rounds.end_all.Given as goal
 
 abbrev pub invariant-loop-client : goal.invariant-loop-client

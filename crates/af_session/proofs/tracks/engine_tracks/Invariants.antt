@@ -1,5 +1,5 @@
 use Rattle.std.proofs.Common.{◌≡◌, map, take}
-use Rattle.af_session.specs.NewTracks.{engine_track}
+use Rattle.af_session.proofs.Common.{engine_track}
 use Rattle.af_session.proofs.tracks.engine_tracks.Given as goal
 
 abbrev pub invariant-loop-spec : goal.invariant-loop-spec

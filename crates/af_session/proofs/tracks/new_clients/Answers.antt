@@ -1,6 +1,5 @@
 use Rattle.std.proofs.Common.{◌++◌, ◌∷◌, [], List, sym, ap, ◌∙◌, subst, append_assoc}
-use Rattle.af_session.proofs.Common.{TrackEnds, into_iter_items}
-use Rattle.af_session.specs.NewTracks.{AreNewClients}
+use Rattle.af_session.proofs.Common.{AreNewClients, TrackEnds, into_iter_items}
 use Rattle.af_session.proofs.NewClients.{one_client_more}
 use Rattle.af_session.proofs.tracks.new_clients.Goals as goal
 

@@ -1,6 +1,5 @@
-use Rattle.af_session.proofs.Common.{into_iter_items}
+use Rattle.af_session.proofs.Common.{AreNewClients, into_iter_items}
 use Rattle.std.specs.Prelude.{◌≡◌, ◌++◌}
-use Rattle.af_session.specs.NewTracks.{AreNewClients}
 use Rattle.af_session.proofs.tracks.new_clients.Given as goal
 
 abbrev pub invariant-loop-one : goal.invariant-loop-one

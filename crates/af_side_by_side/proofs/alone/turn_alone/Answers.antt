@@ -1,6 +1,5 @@
 use Rattle.std.proofs.Common.{◌≡◌, Bool, true, false, List, [], ℕ, length, append-nil, refl, sym, ap, subst, ◌∙◌}
-use Rattle.af_side_by_side.proofs.Common.{MatchBool, MixerState, Roomy, keeps_itself, noted_so_far}
-use Rattle.af_side_by_side.specs.Alone.{CyclesOn, FastTurned, most_cycles}
+use Rattle.af_side_by_side.proofs.Common.{CyclesOn, FastTurned, MatchBool, MixerState, Roomy, keeps_itself, most_cycles, noted_so_far}
 use Rattle.af_side_by_side.proofs.AloneTurns.{sounds_on}
 use Rattle.af_side_by_side.proofs.ScribeTurns.{noted_none}
 use Rattle.af_side_by_side.proofs.alone.turn_alone.Goals as goal

@@ -1,6 +1,5 @@
 use Rattle.std.proofs.Common.{◌≡◌, ◌<◌, ℕ, List, [], get_or, length, map, sym, ap, subst, ◌∙◌, arith}
-use Rattle.af_side_by_side.proofs.Common.{IsTally, PartyState, SessionState, Shown, slice_index_or}
-use Rattle.af_side_by_side.specs.SideBySide.{with_all_calls}
+use Rattle.af_side_by_side.proofs.Common.{IsTally, PartyState, SessionState, Shown, slice_index_or, with_all_calls}
 use Rattle.af_side_by_side.proofs.NotedTurns.{calls_at, calls_next}
 use Rattle.af_side_by_side.proofs.rounds_of_all.note_turns.Goals as goal
 

@@ -1,6 +1,5 @@
 use Rattle.std.proofs.Common.{map}
-use Rattle.af_side_by_side.proofs.Common.{IsTally, Keeps, PartyState, Shown}
-use Rattle.af_side_by_side.specs.SideBySide.{with_all_calls}
+use Rattle.af_side_by_side.proofs.Common.{IsTally, Keeps, PartyState, Shown, with_all_calls}
 use Rattle.af_side_by_side.proofs.rounds_of_all.note_turns.Given as goal
 
 abbrev pub invariant-loop-i : goal.invariant-loop-i

@@ -1,9 +1,8 @@
 use Rattle.std.proofs.Common.{◌≡◌, ◌<◌, ◌∙◌, Bool, sym, subst, arith}
-use Rattle.af_side_by_side.proofs.Common.{MatchBool}
+use Rattle.af_side_by_side.proofs.Common.{MatchBool, TurnPlayed}
 use Rattle.af_normal.specs.Order.{most_turns}
 use Rattle.af_normal.specs.TurnMade.{TurnMade}
 use Rattle.af_normal.specs.declared.turn.Turn.{Turn as Answer}
-use Rattle.af_side_by_side.specs.SideBySide.{TurnPlayed}
 use Rattle.af_side_by_side.proofs.side_by_side.normal_in.Goals as goal
 
 pub returns-then-not-has_ended : goal.returns-then-not-has_ended

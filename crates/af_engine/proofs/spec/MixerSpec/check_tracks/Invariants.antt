@@ -1,7 +1,5 @@
-use Rattle.af_engine.proofs.Common.{slice_index_or, ℕ}
+use Rattle.af_engine.proofs.Common.{EngineTrack, IsEngineTrack, slice_index_or, ℕ}
 use Rattle.std.specs.Prelude.{◌<◌}
-use Rattle.af_engine.specs.declared.spec.EngineTrack.{EngineTrack}
-use Rattle.af_engine.specs.MixerSpecs.{IsEngineTrack}
 use Rattle.af_engine.proofs.spec.MixerSpec.check_tracks.Given as goal
 
 abbrev pub invariant-loop-index : goal.invariant-loop-index

@@ -2,8 +2,6 @@ use Rattle.std.proofs.Common.{◌≡◌, ◌*◌, ◌≤◌, ℕ, List, Some, On
 use Rattle.af_rendering.proofs.Common.{All, IsReady, IsScript, IsTally, IsTurn, LeavesFront, Roomy, RoundNoted, SessionState, SetsFile, TrackSpec, TurnSpec, nothing_shown, pcm_of}
 use Rattle.af_rendering.specs.Rendered.{Runs}
 use Rattle.af_rendering.proofs.FirstRound.{empty_first, frames_first, ready_first, rendered}
-use Rattle.af_rendering.proofs.Spared.{spares_first}
-use Rattle.af_rendering.proofs.SparedEntries.{entries_first}
 use Rattle.af_rendering.proofs.StagesRun.{has_rendered, in_frames, silent_so_far}
 use Rattle.af_rendering.proofs.staging.Stage.play_turns.Goals as goal
 
@@ -66,7 +64,7 @@ returns-clause-rendered g c =
     let new = c.requires.new.new in
     let done = c.play_all.ensures in
     has_rendered script s.shared was new c.args.files.now c.links-links.result c.tracks-tracks.result.now c.tracks-tracks.ensures.value (record { shared = _; parties = _; room = _; rounds = c.args.self.now.rounds }) (done.kept.released ∙ c.requires.new.room.released) c.turns.result.now c.turns.ensures.value c.play_all.result
-    (spares_first script s.shared was new) done.ready done.all done.frames (done.entries (entries_first script s.shared was new))
+    done.ready done.all done.frames
 
 pub returns-clause-sent : goal.returns-clause-sent
 returns-clause-sent g c = λ told base set.

@@ -1,6 +1,5 @@
 use Rattle.std.proofs.Common.{◌+◌, ◌∙◌, sym}
-use Rattle.af_session.specs.Rounds.{round_told}
-use Rattle.af_session.specs.Together.{SessionState}
+use Rattle.af_session.proofs.Common.{SessionState, round_told}
 use Rattle.af_session.proofs.CarriedOn.{carried_on}
 use Rattle.af_session.proofs.FollowingRounds.{told_met}
 use Rattle.af_session.proofs.parties.Parties.round.Goals as goal

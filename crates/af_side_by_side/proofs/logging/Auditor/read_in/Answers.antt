@@ -1,6 +1,5 @@
 use Rattle.std.proofs.Common.{◌≡◌, Option, Some, sym, ap, ◌∙◌, subst, rules}
-use Rattle.af_side_by_side.proofs.Common.{Note, ReaderState, Roomy, reader_made}
-use Rattle.af_side_by_side.specs.Logging.{AuditorState, HasAudited}
+use Rattle.af_side_by_side.proofs.Common.{AuditorState, HasAudited, Note, ReaderState, Roomy, reader_made}
 use Rattle.af_side_by_side.proofs.logging.Auditor.read_in.Goals as goal
 
 pub returns : goal.returns

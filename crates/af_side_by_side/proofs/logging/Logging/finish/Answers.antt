@@ -1,5 +1,5 @@
 use Rattle.std.proofs.Common.{subst}
-use Rattle.af_side_by_side.specs.Logging.{HasAudited, HasMetLog, LoggingState}
+use Rattle.af_side_by_side.proofs.Common.{HasAudited, HasMetLog, LoggingState}
 use Rattle.af_side_by_side.proofs.LogEnds.{finished}
 use Rattle.af_side_by_side.proofs.logging.Logging.finish.Goals as goal
 

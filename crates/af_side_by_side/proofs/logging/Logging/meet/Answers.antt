@@ -1,5 +1,5 @@
 use Rattle.std.proofs.Common.{◌≡◌, Some, ap, refl, rules, ◌∙◌}
-use Rattle.af_side_by_side.specs.Logging.{AuditorState, LoggingState}
+use Rattle.af_side_by_side.proofs.Common.{AuditorState, LoggingState}
 use Rattle.af_side_by_side.proofs.LogMeets.{met_log}
 use Rattle.af_side_by_side.proofs.logging.Logging.meet.Goals as goal
 

@@ -1,7 +1,5 @@
 use Rattle.std.proofs.Common.{◌≡◌, ◌+◌, ◌≤◌, Bool, List, [], length, refl, sym, ap, ◌∙◌, arith}
-use Rattle.af_side_by_side.proofs.Common.{All-nil, CycleEntry, Note, Roomy}
-use Rattle.af_side_by_side.specs.Alone.{most_cycles}
-use Rattle.af_side_by_side.specs.Logging.{notes_kept}
+use Rattle.af_side_by_side.proofs.Common.{All-nil, CycleEntry, Note, Roomy, most_cycles, notes_kept}
 use Rattle.af_side_by_side.proofs.logging.Logging.of.Goals as goal
 
 pub returns : goal.returns

@@ -1,7 +1,6 @@
 use Rattle.std.proofs.Common.{◌≡◌, ◌++◌, ℕ, IfOk, List, MatchOption, Option, ap, subst, ◌∙◌}
-use Rattle.af_side_by_side.proofs.Common.{Note, WriterState, accepted}
+use Rattle.af_side_by_side.proofs.Common.{LoggingState, Note, WriterState, accepted}
 use Rattle.af_nblog.specs.LogText.{log_text}
-use Rattle.af_side_by_side.specs.Logging.{LoggingState}
 use Rattle.af_side_by_side.specs.declared.logging.Logging.TheInside.{Inside}
 use Rattle.af_side_by_side.proofs.logging.Logging.write.Goals as goal
 

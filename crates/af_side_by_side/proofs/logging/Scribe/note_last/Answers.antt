@@ -1,6 +1,5 @@
 use Rattle.std.proofs.Common.{◌≡◌, ◌-◌, ◌≤◌, ◌++◌, ℕ, Some, List, length, refl, sym, ap, subst, ◌∙◌, arith, rules}
-use Rattle.af_side_by_side.proofs.Common.{CycleEntry, Logged, MixerState, Note, Noted, NotedBy, Refused, Sent, WriterState, accepted, entry_at, kept, note_of, note_steps, writer_made}
-use Rattle.af_side_by_side.specs.Logging.{HasLogged, ScribeState}
+use Rattle.af_side_by_side.proofs.Common.{CycleEntry, HasLogged, Logged, MixerState, Note, Noted, NotedBy, Refused, ScribeState, Sent, WriterState, accepted, entry_at, kept, note_of, note_steps, writer_made}
 use Rattle.af_tally.specs.Steps.{most_note}
 use Rattle.af_side_by_side.proofs.LogNotes.{at_last, logged_one}
 use Rattle.af_side_by_side.proofs.logging.Scribe.note_last.Goals as goal
