@@ -44,11 +44,13 @@ pub use Rattle.af_session.specs.FastTurns.{IsFastTurn, WritesCycle}
 pub use Rattle.af_session.specs.Met.{Met}
 pub use Rattle.af_session.specs.NewSession.{IsNewSession, tracks_of}
 pub use Rattle.af_session.specs.Noted.{NotesFrames, NotesNumbers}
-pub use Rattle.af_session.specs.Rooms.{HasPlacesAt, IsNewRoom, IsReadyOn, KeepsRoom, given_of}
+pub use Rattle.af_session.specs.Rooms.{CarriesOn, HasPlacesAt, HasRoundRoom, IsNewRoom, IsReadyOn, KeepsRoom, KeepsSound, given_of}
 pub use Rattle.af_session.specs.Rounds.{Given, IsReady, IsRound, IsTurnRun, NormalTurned, Turns, calls_in, client_round, end_party, fast_round, file_at, no_calls, normal_round, ops_at, ops_of, round_told, still_round}
 pub use Rattle.af_session.specs.Shown.{FollowsRound, HasPlaces, calls_over, released_by, shown_at, shown_by, shown_in, summary_told}
 unfoldable pub use Rattle.af_session.specs.Shown.{shows}
 pub use Rattle.af_session.specs.Together.{AreTogether, SessionState}
+pub use Rattle.af_session.specs.declared.rig.Rig.{Rig}
+pub use Rattle.af_session.specs.declared.room.Room.{Room}
 pub use Rattle.af_stateq.specs.Laws.{polled_states, pushed_states}
 pub use Rattle.af_tally.specs.Sound.{pcm_of}
 pub use Rattle.af_tally.specs.Summaries.{Shown, nothing_shown, summary_of}

@@ -2,7 +2,7 @@
 use Rattle.std.proofs.Common.{◌≡◌, ℕ, All, List, [], ◌∷◌, length, map, take, drop, refl, sym, ap, subst, ◌∙◌}
 use Rattle.af_rendering.proofs.Common.{All-cons, All-head, All-nil, All-tail, AreEntries, CycleEntry, EntrySeen, Frame, HasRanges, IsFrame, IsJournal, IsWhole, Logged, RoundNoted, RoundsNoted, all_dealt, cycles_of, entries_of, entries_pcm, entries_seen, frames_of, journal_of, journal_pcm, pcm_of, rounds_seen, same_length, taken_by}
 use Rattle.af_model.specs.JournalForm.{IsRound}
-use Rattle.af_rendering.proofs.RoundForms.{AreNoted, IsNoted}
+use Rattle.af_rendering.specs.SoFar.{AreNoted, HasRoundForm}
 
 -- the entries of a log are those that the journal of the log has
 pub same_entries : (frames : List Frame) (entries : List CycleEntry) → map (λ (x : EntrySeen). x.entry) (entries_seen frames entries) ≡ entries
@@ -15,13 +15,13 @@ dealt noted log count = all_dealt (entries_seen log.frames log.entries) noted.ro
 
 -- ## Form
 
-rounds_form : (tracks : ℕ) (entries : List EntrySeen) (rounds : List RoundNoted) → All (IsNoted tracks) rounds → All (IsRound tracks) (rounds_seen entries rounds)
+rounds_form : (tracks : ℕ) (entries : List EntrySeen) (rounds : List RoundNoted) → All (HasRoundForm tracks) rounds → All (IsRound tracks) (rounds_seen entries rounds)
 rounds_form tracks entries [] all = All-nil (IsRound tracks)
 rounds_form tracks entries (r ∷ rs) all =
-    let here = All-head (IsNoted tracks) r rs all in
+    let here = All-head (HasRoundForm tracks) r rs all in
     All-cons (IsRound tracks) (record { calls = r.calls; turn = r.turn; entries = take r.cycles entries }) (rounds_seen (drop r.cycles entries) rs)
     (record { calls = here.calls; turn = here.turn })
-    (rounds_form tracks (drop r.cycles entries) rs (All-tail (IsNoted tracks) r rs all))
+    (rounds_form tracks (drop r.cycles entries) rs (All-tail (HasRoundForm tracks) r rs all))
 
 module _ (tracks : ℕ) (noted : RoundsNoted) (log : Logged) (are : AreNoted tracks noted log) (samples : All IsFrame log.frames) where
   pub journal_whole : IsWhole noted log

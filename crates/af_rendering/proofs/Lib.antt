@@ -14,3 +14,4 @@ pub mod FilesGiven
 pub mod ShownWhole
 pub mod TurnsPlayed
 pub mod StagesRun
+pub mod ComeSoFar

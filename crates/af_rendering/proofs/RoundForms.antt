@@ -4,15 +4,11 @@ use Rattle.af_rendering.proofs.Common.{All-append, All-cons, All-nil, AreWhole, 
 use Rattle.af_life.proofs.TurnForms.{turn_form}
 use Rattle.af_model.specs.JournalForm.{IsTurn}
 use Rattle.af_script.specs.declared.op.TurnSpec.TheVariants as spec
+use Rattle.af_rendering.specs.SoFar.{AreNoted, HasRoundForm}
 use Rattle.af_rendering.proofs.LogGoes.{Goes, all_front, fast_goes, goes_not}
 use Rattle.af_rendering.proofs.RoundTold.{log_turned}
 
 -- ## A round
-
--- a round of its form: the calls of each client, and a turn of its form if there is one
-pub record IsNoted (tracks : ℕ) (r : RoundNoted) : Type 0 where
-  pub calls : length r.calls ≡ tracks
-  pub turn : MatchOption r.turn (Unit {0}) (IsTurn tracks)
 
 -- a round between the parties s and a log
 pub record Notes (s : SessionState) (r : RoundNoted) (log : Logged) : Type 0 where
@@ -66,18 +62,11 @@ round_notes g turn s r bytes t round =
 
 -- ## All rounds
 
--- Rounds of so many tracks were noted, with as many cycles as the log has entries. The entries are of their form if their frames are
-pub record AreNoted (tracks : ℕ) (noted : RoundsNoted) (log : Logged) : Type 0 where
-  pub tracks_are : noted.tracks ≡ tracks
-  pub each : All (IsNoted tracks) noted.rounds
-  pub count : cycles_of noted.rounds ≡ length log.entries
-  pub form : All IsFrame log.frames → AreWhole 0 log.frames log.entries
-
 -- no rounds were noted
 pub noted_none : (tracks : ℕ) (log : Logged) → log.entries ≡ [] → log.frames ≡ [] → AreNoted tracks (record { tracks = tracks; rounds = [] }) log
 noted_none tracks log entries frames = record {
   tracks_are = refl;
-  each = All-nil (IsNoted tracks);
+  each = All-nil (HasRoundForm tracks);
   count = ap length (sym entries);
   form = (λ samples. subst (λ (x : List Frame × List CycleEntry). AreWhole 0 x.0 x.1) (λ k. (sym frames k, sym entries k)) (none_whole 0));
 }
@@ -87,7 +76,7 @@ pub noted_more : (s : SessionState) (r : RoundNoted) (noted : RoundsNoted) (log 
     → AreNoted (length s.clients) (record noted { rounds = noted.rounds ++ r ∷ [] }) log
 noted_more s r noted log are n frames tracks = record {
   tracks_are = are.tracks_are;
-  each = All-append (IsNoted (length s.clients)) noted.rounds (r ∷ []) are.each (All-cons (IsNoted (length s.clients)) r [] (record { calls = n.calls; turn = n.turn frames tracks }) (All-nil (IsNoted (length s.clients))));
+  each = All-append (HasRoundForm (length s.clients)) noted.rounds (r ∷ []) are.each (All-cons (HasRoundForm (length s.clients)) r [] (record { calls = n.calls; turn = n.turn frames tracks }) (All-nil (HasRoundForm (length s.clients))));
   count = (let more = cycles_more noted.rounds r in let before = are.count in let here = n.count in omega arith);
   form = (λ samples. n.goes.form samples (are.form (all_front IsFrame s.fast.log.frames n.goes.frames.0 (subst (All IsFrame) n.goes.frames.1 samples))));
 }

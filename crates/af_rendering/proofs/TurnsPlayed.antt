@@ -1,23 +1,11 @@
--- The turns that were played so far, and what all of them come to. Their rounds are seen in the parties before and after each, and stand nowhere else.
+-- The turns that were played so far. Their rounds are seen in the parties before and after each, and stand nowhere else.
 use Rattle.std.proofs.Common.{◌≡◌, ℕ, ◌+◌, ◌<◌, ◌^◌, All, List, [], ◌∷◌, ◌++◌, length, take, get_or, refl, arith}
 use Rattle.af_rendering.proofs.Common.{All-append, All-cons, All-nil, FastState, FitsEntry, FollowsRound, Given, IsFrame, IsReady, IsRound, IsTally, Links, NotesFrames, NotesNumbers, RoundNoted, RoundsNoted, SessionState, Tallied, TurnSpec, nothing_shown, pcm_of, round_told, shown_at}
-use Rattle.af_model.proofs.NumbersFit.{ranges_dealt}
-use Rattle.af_rendering.specs.Rendered.{PlaysTurns, Runs}
-use Rattle.af_rendering.proofs.JournalSound.{journal_form, journal_whole}
-use Rattle.af_rendering.proofs.RoundForms.{AreNoted, noted_none, noted_round}
+use Rattle.af_rendering.specs.Rendered.{Runs}
+use Rattle.af_rendering.specs.SoFar.{SoFar, noted_of}
+use Rattle.af_rendering.proofs.RoundForms.{noted_none, noted_round}
 use Rattle.af_rendering.proofs.RunMore.{run_more, run_none}
 use Rattle.af_rendering.proofs.ShownWhole.{tally_first}
-
--- the rounds of so many tracks
-abbrev pub noted_of : Given → List RoundNoted → RoundsNoted
-noted_of g rounds = record { tracks = length g.tracks; rounds = rounds }
-
--- So far these turns were played from s to t, as these rounds
-pub record SoFar (g : Given) (turns : List TurnSpec) (s : SessionState) (rounds : List RoundNoted) (t : SessionState) (tally : Tallied) : Type 0 where
-  pub run : Runs g turns s rounds t
-  pub tally_is : (first : FastState) → IsTally (shown_at first (length g.tracks) rounds t.fast) tally
-  pub noted : AreNoted (length g.tracks) (noted_of g rounds) t.fast.log
-  pub numbers : All NotesNumbers rounds
 
 -- no turns were played so far
 pub so_far_none : (g : Given) (s : SessionState) (tally : Tallied) → s.fast.log.entries ≡ [] → s.fast.log.frames ≡ [] → IsTally (nothing_shown s.fast.frames (length g.tracks)) tally → SoFar g [] s [] s tally
@@ -42,18 +30,3 @@ so_far_more links d g turns i s m t rounds before after lt ready far added round
       noted = noted_round links g i m ready turn r added t round frames (noted_of g rounds) far.noted;
       numbers = All-append NotesNumbers rounds (r ∷ []) far.numbers (All-cons NotesNumbers r [] numbers (All-nil NotesNumbers));
     }
-
--- a session has few tracks
-few_tracks : (links : Links) (g : Given) (n : ℕ) (t : SessionState) → IsReady links g n t → length g.tracks < 2 ^ 32
-few_tracks links g n t ready = let few = ready.together.normal.tied.sizes.few in omega (arith, few, ready.given.0, ready.together.count)
-
--- all turns were played, and the frames and the numbers of the log have their form
-pub all_played : (links : Links) (g : Given) (n : ℕ) (turns : List TurnSpec) (s : SessionState) (rounds : List RoundNoted) (t : SessionState) (tally : Tallied) → IsReady links g n t → SoFar g turns s rounds t tally
-    → All IsFrame t.fast.log.frames → All FitsEntry t.fast.log.entries → PlaysTurns g turns s (noted_of g rounds) t tally
-all_played links g n turns s rounds t tally ready far samples entries = record {
-  runs = far.run;
-  tracks = refl;
-  whole = journal_whole (length g.tracks) (noted_of g rounds) t.fast.log far.noted samples;
-  form = journal_form (length g.tracks) (noted_of g rounds) t.fast.log far.noted samples (ranges_dealt (noted_of g rounds) t.fast.log (few_tracks links g n t ready) far.numbers entries);
-  tally_is = far.tally_is;
-}

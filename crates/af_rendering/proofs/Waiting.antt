@@ -1,6 +1,7 @@
 -- Bytes that wait to go out behind what a file has of a sound.
-use Rattle.std.proofs.Common.{◌≡◌, ℕ, ◌++◌, List, [], Some, sym, ap, subst, ◌∙◌, append-nil, append_assoc}
-use Rattle.af_rendering.proofs.Common.{Files, SetsFile}
+use Rattle.std.proofs.Common.{◌≡◌, ℕ, ◌++◌, List, [], Some, length, take, inr, sym, ap, subst, ◌∙◌, append-nil}
+use Rattle.af_rendering.proofs.Common.{Files, KeepsSound, LeavesFront, MixerState, SetsFile, pcm_of}
+use Rattle.std.proofs.Math.Seq.{take-append_seam}
 use Rattle.af_rendering.specs.Rendered.{HoldsBut}
 
 module _ (base files : Files) (name sound : List ℕ) where
@@ -14,8 +15,14 @@ module _ (base files : Files) (name sound : List ℕ) where
       let whole = sym (append-nil held.0) ∙ ap (λ (xs : List ℕ). held.0 ++ xs) (sym none) ∙ held.1 in
       subst (λ (xs : List ℕ). SetsFile base name (Some xs) files) whole held.2
 
-  -- more bytes wait if the sound has as many more
-  pub more_wait : (waiting waits more next : List ℕ) → waits ≡ waiting ++ more → sound ++ more ≡ next → HoldsBut waiting base name sound files → HoldsBut waits base name next files
-  more_wait waiting waits more next are grown held =
-      let joined = ap (λ (xs : List ℕ). held.0 ++ xs) are ∙ sym (append_assoc held.0 waiting more) ∙ ap (λ (xs : List ℕ). xs ++ more) held.1 ∙ grown in
-      (held.0, joined, held.2)
+  -- what a file has of a sound is a front of it
+  pub front_held : (waiting : List ℕ) → HoldsBut waiting base name sound files → LeavesFront base name sound files
+  front_held waiting held =
+      let front : take (length held.0) sound ≡ held.0 = ap (take (length held.0)) (sym held.1) ∙ take-append_seam held.0 waiting in
+      inr (length held.0, subst (λ (xs : List ℕ). SetsFile base name (Some xs) files) (sym front) held.2)
+
+-- the bytes of a round wait behind those that waited, and the sound has them
+pub wait_on : (base files : Files) (name : List ℕ) (m m' : MixerState) (frames : ℕ) → m.frames ≡ frames → (bytes bytes' : List ℕ) → KeepsSound m m' bytes bytes' → HoldsBut bytes base name (pcm_of frames m.log) files → HoldsBut bytes' base name (pcm_of frames m'.log) files
+wait_on base files name m m' frames same bytes bytes' keeps held =
+    let was : HoldsBut bytes base name (pcm_of m.frames m.log) files = subst (λ (n : ℕ). HoldsBut bytes base name (pcm_of n m.log) files) (sym same) held in
+    subst (λ (n : ℕ). HoldsBut bytes' base name (pcm_of n m'.log) files) same (was.0, keeps was.0 was.1, was.2)

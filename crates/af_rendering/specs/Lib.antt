@@ -1,3 +1,4 @@
 pub mod Rendered
 pub mod Stages
 pub mod Alone
+pub mod SoFar

@@ -40,18 +40,6 @@ pub record Runs (g : Given) (turns : List TurnSpec) (s : SessionState) (rounds :
   pub run : IsTurnRun g turns s rounds bytes t
   pub sound : pcm_of s.fast.frames t.fast.log ≡ pcm_of s.fast.frames s.fast.log ++ bytes
 
--- a round of this turn from s to t, as it is told, and the sound of the log grew by just its bytes
-abbrev pub PlaysRound : Given → TurnSpec → SessionState → SessionState → Type 0
-PlaysRound g turn s t = (bytes : List ℕ) × IsRound g turn s (round_told turn s t) bytes t × (pcm_of s.fast.frames s.fast.log ++ bytes ≡ pcm_of s.fast.frames t.fast.log)
-
--- All these turns were played from s to t. Their rounds make a journal with the log, and the tally is that of the rounds
-pub record PlaysTurns (g : Given) (turns : List TurnSpec) (s : SessionState) (rounds : RoundsNoted) (t : SessionState) (tally : Tallied) : Type 0 where
-  pub runs : Runs g turns s rounds.rounds t
-  pub tracks : rounds.tracks ≡ length g.tracks
-  pub whole : IsWhole rounds t.fast.log
-  pub form : IsJournal (journal_of rounds t.fast.log)
-  pub tally_is : (first : FastState) → IsTally (shown_at first (length g.tracks) rounds.rounds t.fast) tally
-
 -- The parties t have played these turns since they were made of the script, with these rounds: a turn run with the files, whose bytes are the sound of the log
 pub record Renders (script : ScriptData) (files : List (List Frame)) (turns : List TurnSpec) (rounds : List RoundNoted) (t : SessionState) : Type 0 where
   pub shared : SharedState
@@ -78,11 +66,6 @@ Extends result name had has old new = (base : Files) → SetsFile base name (Som
 -- what a call makes of the file of this name, which had a sound but for the bytes that waited: all but for those that wait now, or after an error a front of the sound
 abbrev pub Sends : {T : Type 0} → Result T StoreError → List ℕ → List ℕ → List ℕ → Files → Files → Type 0
 Sends result name waited waits old new = (base : Files) (sound : List ℕ) → HoldsBut waited base name sound old → OnOk result (HoldsBut waits base name sound new) × OnErr result (LeavesFront base name sound new)
-
--- what a round from s to t makes of the file of this name, which had the sound of the log but for the bytes that waited in this room: the same of its log and the next room, or after an error a front of the sound
-abbrev pub SendsRound : {T : Type 0} → Result T StoreError → List ℕ → SessionState → Room → SessionState → Room → Files → Files → Type 0
-SendsRound result name s room t next old new = (base : Files) → HoldsBut room.bytes.items base name (pcm_of s.fast.frames s.fast.log) old
-    → OnOk result (HoldsBut next.bytes.items base name (pcm_of s.fast.frames t.fast.log) new) × OnErr result (LeavesFront base name (pcm_of s.fast.frames t.fast.log) new)
 
 -- no file has changed; or only the file of this name, which holds a front of the sound of some first turns
 abbrev pub LeavesSound : ScriptData → List (List Frame) → List ℕ → Files → Files → Type 0

@@ -1,4 +1,4 @@
--- What a session is played on: before its first turn, and once its rounds were noted.
+-- What a session is played on: before its first turn, and once its rounds were played.
 use Rattle.std.specs.Prelude.{◌≡◌, ◌*◌, ◌<◌, ◌≤◌, ◌^◌, All, List, [], length}
 use Rattle.af_base.specs.declared.frame.Frame.{Frame}
 use Rattle.af_link.specs.declared.links.Links.{Links}
@@ -18,39 +18,35 @@ use Rattle.af_session.specs.Together.{AreTogether, SessionState}
 use Rattle.af_tally.specs.Summaries.{Shown}
 use Rattle.af_tally.specs.Tallies.{IsTally}
 
--- the buffer has the frames of a cycle of these parties, there is room for the bytes of four rounds, and those of three at most wait in it
+-- the buffer has the frames of a cycle of these parties, which are few, there is room for the bytes of four rounds, and those of three at most wait in it
 pub record HasRoomToWait (s : SessionState) (room : Room) : Type 0 where
+  pub small : s.fast.frames < 2 ^ 32
   pub buffer : length room.buffer.items ≡ s.fast.frames
   pub bytes : 256 * s.fast.frames ≤ room.bytes.room
   pub waits : length room.bytes.items ≤ 192 * s.fast.frames
 
--- a new stage: the new parties of an accepted script with what they share, with new room, and no round
+-- a new stage: the new parties of an accepted script with what they share, with new room
 pub record IsNewStage (script : ScriptData) (s : Stage) : Type 0 where
   pub script_is : IsScript script
   pub new : IsNewSession script s.shared s.parties
   pub together : (links : Links) → AreLinksOf s.shared links → AreTogether links s.parties
   pub room : IsNewRoom script.frames (length script.tracks) s.room
-  pub rounds : s.rounds ≡ record { tracks = length script.tracks; rounds = [] }
 
--- the stage as it would be if these rounds had been noted on it
-abbrev pub noted_as : RoundsNoted → Stage → Stage
-noted_as rounds s = record s { rounds = rounds }
+-- what these rounds, which were played on a stage, show with the log
+abbrev pub shown_on : ScriptData → RoundsNoted → Stage → Shown
+shown_on script rounds s = shown_in script.frames rounds s.parties.fast.log s.parties.normal.mutator.past.events
 
--- what the rounds noted on a stage show, with the log
-abbrev pub shown_on : ScriptData → Stage → Shown
-shown_on script s = shown_in script.frames s.rounds s.parties.fast.log s.parties.normal.mutator.past.events
-
--- The rounds noted on a stage make a journal with the log, and the tally is theirs. There is room for a count of each client
-pub record IsNoted (script : ScriptData) (s : Stage) : Type 0 where
-  pub tracks : s.rounds.tracks ≡ length script.tracks
-  pub whole : IsWhole s.rounds s.parties.fast.log
-  pub form : IsJournal (journal_of s.rounds s.parties.fast.log)
+-- These rounds, which were played on a stage, make a journal with the log, and the tally is theirs. There is room for a count of each client
+pub record IsNoted (script : ScriptData) (rounds : RoundsNoted) (s : Stage) : Type 0 where
+  pub tracks : rounds.tracks ≡ length script.tracks
+  pub whole : IsWhole rounds s.parties.fast.log
+  pub form : IsJournal (journal_of rounds s.parties.fast.log)
   pub count : length s.parties.clients ≡ length script.tracks
-  pub tally : IsTally (shown_on script s) s.room.tally
+  pub tally : IsTally (shown_on script rounds s) s.room.tally
   pub released : All (λ (p : PartyState). p.stream.released < 2 ^ 58) s.parties.clients
   pub room : s.room.released ≡ record { items = []; room = length script.tracks }
 
--- all turns of the script were played on the stage
-pub record HasRendered (script : ScriptData) (files : List (List Frame)) (s : Stage) : Type 0 where
-  pub all : Renders script files script.turns s.rounds.rounds s.parties
-  pub noted : IsNoted script s
+-- all turns of the script were played on the stage, as these rounds
+pub record HasRendered (script : ScriptData) (files : List (List Frame)) (rounds : RoundsNoted) (s : Stage) : Type 0 where
+  pub all : Renders script files script.turns rounds.rounds s.parties
+  pub noted : IsNoted script rounds s

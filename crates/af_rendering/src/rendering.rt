@@ -1,29 +1,30 @@
 //! A script's turns from first to last, one after the other.
-ghost use Rattle.std.specs.Prelude.{◌^◌, All, ◌≡◌, ◌<◌, ◌≤◌, ℕ, [], Some, length, take, IfOk, OnOk, OnErr};
+ghost use Rattle.std.specs.Prelude.{◌^◌, All, ◌≡◌, ◌<◌, ◌≤◌, ℕ, [], Some, length, IfOk, OnOk, OnErr};
 ghost use Rattle.af_io.specs.Causes.{HasCause};
 ghost use Rattle.af_io.specs.Files.{SetsFile};
 ghost use Rattle.af_model.specs.JournalForm.{IsJournal, IsWhole};
 ghost use Rattle.af_model.specs.Journals.{JournalData, RoundsNoted, journal_of};
 ghost use Rattle.af_script.specs.Data.{ScriptData};
 ghost use Rattle.af_session.specs.Ends.{command_proxy, ends_from, stream_proxy};
-ghost use Rattle.af_rendering.specs.Rendered.{ComesTo, Extends, HaveFiles, LeavesSound, Rendered};
+ghost use Rattle.af_rendering.specs.Rendered.{ComesTo, HaveFiles, LeavesSound};
 ghost use Rattle.af_session.specs.Shown.{released_by, summary_told};
-ghost use Rattle.af_rendering.specs.Stages.{HasRendered, IsNewStage, IsNoted, noted_as};
+ghost use Rattle.af_rendering.specs.Stages.{HasRendered, IsNewStage, IsNoted};
 ghost use Rattle.af_tally.specs.Sound.{pcm_of};
 ghost use Rattle.af_runs.specs.Pcm.{journal_pcm};
 ghost use Rattle.af_tally.specs.Summaries.{Shown, summary_of};
 ghost use Rattle.af_tally.specs.Tallies.{IsTally};
 
-use crate::playing::play_all;
+use crate::playing::TurnByTurn;
+use crate::rounds::play_rounds;
 use crate::staging::Stage;
 use af_base::Items;
 use af_client::Client;
 use af_io::{Pcm, Store, StoreError};
-use af_model::{Journal, Rounds};
+use af_model::{Journal, Rounds, know_log};
 use af_normal::NormalMixer;
 use af_party::Party;
 use af_script::Script;
-use af_session::{Parties, Rig};
+use af_session::{Parties, Rig, know_frames};
 use af_tally::{Costs, Summary, Tally};
 use std::alloc::Global;
 use std::marker::Model;
@@ -155,7 +156,7 @@ fn hand_back(parties: Parties, rounds: Rounds, summary: Summary) -> Played
 }
 
 impl Stage {
-    // Plays all turns of a script by its new parties, into a file that is empty. No round is noted.
+    // Makes the file, and plays all turns of a script by its new parties. No round is kept.
     fn play_turns<S: Store>(
         &mut self,
         script: &Script,
@@ -165,10 +166,10 @@ impl Stage {
     ) -> Result<(), StoreError>
         requires new { IsNewStage script.now self.old }
         requires files { HaveFiles (record { tracks = script.now.tracks; files = files.now }) }
-        ensures some { (n : ℕ) × Rendered script.now files.now (take n script.now.turns) self.new.parties }
-        ensures rendered { OnOk result ((rounds : RoundsNoted) × HasRendered script.now files.now (noted_as rounds self.new)) }
-        ensures sent { S.told store.old
-            → Extends result name.now [] (pcm_of script.now.frames self.new.parties.fast.log) (S.files store.old) (S.files store.new) }
+        ensures rendered { OnOk result ((rounds : RoundsNoted) × HasRendered script.now files.now rounds self.new) }
+        ensures written { S.told store.old
+            → OnOk result (SetsFile (S.files store.old) name.now (Some (pcm_of script.now.frames self.new.parties.fast.log)) (S.files store.new)) }
+        ensures left { S.told store.old → OnErr result (LeavesSound script.now files.now name.now (S.files store.old) (S.files store.new)) }
         ensures tells { S.told store.old → S.told store.new }
         ensures cause { HasCause (S.faults store.old) (S.faults store.new) result }
     {
@@ -176,7 +177,6 @@ impl Stage {
             shared,
             parties,
             room,
-            ..
         } = self;
         let links = shared.links();
         let tracks = script.tracks();
@@ -185,35 +185,20 @@ impl Stage {
             tracks,
             files,
         };
-        play_all(parties, &rig, script.turns(), room, store, name)
-    }
-
-    // Makes the file, and plays all turns of a script by its new parties.
-    fn play_new<S: Store>(
-        &mut self,
-        script: &Script,
-        files: &[Pcm],
-        store: &mut S,
-        name: &str,
-    ) -> Result<(), StoreError>
-        requires new { IsNewStage script.now self.old }
-        requires files { HaveFiles (record { tracks = script.now.tracks; files = files.now }) }
-        ensures rendered { OnOk result ((rounds : RoundsNoted) × HasRendered script.now files.now (noted_as rounds self.new)) }
-        ensures written { S.told store.old
-            → OnOk result (SetsFile (S.files store.old) name.now (Some (pcm_of script.now.frames self.new.parties.fast.log)) (S.files store.new)) }
-        ensures left { S.told store.old → OnErr result (LeavesSound script.now files.now name.now (S.files store.old) (S.files store.new)) }
-        ensures tells { S.told store.old → S.told store.new }
-        ensures cause { HasCause (S.faults store.old) (S.faults store.new) result }
-    {
-        store.create(name)?;
-        self.play_turns(script, files, store, name)
+        let turns = TurnByTurn { script, rig };
+        let mut played = 0;
+        let sent = play_rounds(&turns, &mut played, parties, room, store, name);
+        let log = parties.fast.log();
+        know_frames(log.frames());
+        know_log(log);
+        sent
     }
 
     // What a render comes to, from a stage on which all turns were played.
     fn close(mut self) -> Outcome
-        requires { (script : ScriptData) × (rounds : RoundsNoted) × IsNoted script (noted_as rounds self) }
+        requires { (script : ScriptData) × (rounds : RoundsNoted) × IsNoted script rounds self }
         ensures ends { result.ends ≡ ends_from self.parties }
-        ensures summary { (script : ScriptData) (rounds : RoundsNoted) → IsNoted script (noted_as rounds self)
+        ensures summary { (script : ScriptData) (rounds : RoundsNoted) → IsNoted script rounds self
             → result.summary ≡ summary_told script.frames (journal_of rounds self.parties.fast.log) result.ends }
     {
         let summary = sum_up(&self.parties, &self.room.tally, &mut self.room.released);
@@ -223,15 +208,15 @@ impl Stage {
         }
     }
 
-    /// The journal, the summary and the ends of a stage whose rounds were noted.
-    pub fn finish(mut self) -> Played
-        requires { (script : ScriptData) × IsNoted script self }
-        ensures journal { result.journal ≡ journal_of self.rounds self.parties.fast.log }
+    /// The journal of the rounds that were played on a stage, the summary and the ends.
+    pub fn finish(mut self, rounds: Rounds) -> Played
+        requires { (script : ScriptData) × IsNoted script rounds self }
+        ensures journal { result.journal ≡ journal_of rounds self.parties.fast.log }
         ensures ends { result.ends ≡ ends_from self.parties }
-        ensures summary { (script : ScriptData) → IsNoted script self → result.summary ≡ summary_told script.frames result.journal result.ends }
+        ensures summary { (script : ScriptData) → IsNoted script rounds self → result.summary ≡ summary_told script.frames result.journal result.ends }
     {
         let summary = sum_up(&self.parties, &self.room.tally, &mut self.room.released);
-        hand_back(self.parties, self.rounds, summary)
+        hand_back(self.parties, rounds, summary)
     }
 }
 
@@ -254,7 +239,7 @@ pub fn render<S: Store>(
     ensures cause { HasCause (S.faults store.old) (S.faults store.new) result }
 {
     let mut stage = Stage::make(alloc, script)?;
-    match stage.play_new(script, files, store, name) {
+    match stage.play_turns(script, files, store, name) {
         Ok(()) => {
             *steps = stage.room.tally.steps();
             Ok(stage.close())

@@ -4,18 +4,16 @@ ghost use Rattle.af_rendering.specs.Stages.{IsNewStage};
 
 use af_base::Memory;
 use af_engine::Shared;
-use af_model::Rounds;
 use af_script::Script;
 use af_session::{Parties, Room, make};
 use std::alloc::Global;
 
-/// The parties of a session with what they share, the room that their rounds need, and the rounds that were noted. Only a play notes rounds; a render notes none.
+/// The parties of a session with what they share, and the room that their rounds need.
 #[derive(Drop)]
 pub struct Stage {
     pub shared: Shared,
     pub parties: Parties,
     pub room: Room,
-    pub rounds: Rounds,
 }
 
 impl Stage {
@@ -25,13 +23,11 @@ impl Stage {
     {
         let tracks = script.tracks().len();
         let room = Room::make(alloc, script.frames() as usize, tracks)?;
-        let rounds = Rounds::new(alloc, tracks as u32);
         let (shared, parties) = make(alloc, script)?;
         Ok(Stage {
             shared,
             parties,
             room,
-            rounds,
         })
     }
 }

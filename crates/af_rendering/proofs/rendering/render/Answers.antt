@@ -21,16 +21,16 @@ returns-in_err-stage-clause-cause g c = calm_memory c.from_residual.result (g.S.
 
 pub returns-in-Err-clause-left : goal.returns-in-Err-clause-left
 returns-in-Err-clause-left g c = λ told.
-    let left : LeavesSound c.args.script.now c.args.files.now c.args.name.now (g.S.Store.files c.args.store.now) (g.S.Store.files c.play_new.new.store) = c.in-Err.ensures.left told in
+    let left : LeavesSound c.args.script.now c.args.files.now c.args.name.now (g.S.Store.files c.args.store.now) (g.S.Store.files c.play_turns.new.store) = c.in-Err.ensures.left told in
     left
 
 pub returns-in-Err-clause-cause : goal.returns-in-Err-clause-cause
 returns-in-Err-clause-cause g c =
-    cause_same {T = Outcome} (Err c.in-Err.error) c.in-Err.error (g.S.Store.faults c.args.store.now) (g.S.Store.faults c.play_new.new.store) refl c.in-Err.ensures.cause
+    cause_same {T = Outcome} (Err c.in-Err.error) c.in-Err.error (g.S.Store.faults c.args.store.now) (g.S.Store.faults c.play_turns.new.store) refl c.in-Err.ensures.cause
 
 pub returns-in-Ok-clause-played : goal.returns-in-Ok-clause-played
 returns-in-Ok-clause-played g c =
-    let s = c.play_new.new.self in
+    let s = c.play_turns.new.self in
     let frames : ℕ = c.args.script.now.frames in
     let log : Logged = s.parties.fast.log in
     let rounds : RoundsNoted = c.in-Ok.ensures.rendered.0 in
@@ -54,8 +54,8 @@ returns-in-Ok-clause-played g c =
         summary_is = c.close.ensures.summary c.args.script.now rounds have.noted;
         few = steps_told frames rounds log events s.room.tally journal ends c.steps.result.items have.noted.whole refl pushed have.noted.tally c.steps.ensures;
       },
-      (λ told. subst (λ (xs : List ℕ). SetsFile (g.S.Store.files c.args.store.now) c.args.name.now (Some xs) (g.S.Store.files c.play_new.new.store)) (sym sounds) (c.in-Ok.ensures.written told)),
+      (λ told. subst (λ (xs : List ℕ). SetsFile (g.S.Store.files c.args.store.now) c.args.name.now (Some xs) (g.S.Store.files c.play_turns.new.store)) (sym sounds) (c.in-Ok.ensures.written told)),
     )
 
 pub returns-in-Ok-clause-cause : goal.returns-in-Ok-clause-cause
-returns-in-Ok-clause-cause g c = calm_ok c.close.result c.in-Ok.field-0 (g.S.Store.faults c.args.store.now) (g.S.Store.faults c.play_new.new.store) c.in-Ok.ensures.cause
+returns-in-Ok-clause-cause g c = calm_ok c.close.result c.in-Ok.field-0 (g.S.Store.faults c.args.store.now) (g.S.Store.faults c.play_turns.new.store) c.in-Ok.ensures.cause

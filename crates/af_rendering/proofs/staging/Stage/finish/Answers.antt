@@ -15,12 +15,12 @@ sum_up-summary-requires-clause-count c =
     let script = c.requires.0 in
     let noted = c.requires.1 in
     let s = c.args.self in
-    tally_tracks script.frames s.rounds s.parties.fast.log s.parties.normal.mutator.past.events s.room.tally noted.tally ∙ noted.tracks ∙ sym noted.count
+    tally_tracks script.frames c.args.rounds s.parties.fast.log s.parties.normal.mutator.past.events s.room.tally noted.tally ∙ noted.tracks ∙ sym noted.count
 
 pub returns-clause-summary : goal.returns-clause-summary
 returns-clause-summary c = λ script noted.
     let s = c.args.self in
     c.hand_back.ensures.summary
-    ∙ is_told script.frames s.rounds s.parties.fast.log s.parties.normal.mutator.past.events s.parties.clients s.room.tally c.sum_up-summary.result c.hand_back.result.journal c.hand_back.result.ends
+    ∙ is_told script.frames c.args.rounds s.parties.fast.log s.parties.normal.mutator.past.events s.parties.clients s.room.tally c.sum_up-summary.result c.hand_back.result.journal c.hand_back.result.ends
     noted.whole c.hand_back.ensures.journal (ap (λ (e : EndsState). e.clients) c.hand_back.ensures.ends) (ap (λ (e : EndsState). e.normal.mutator.past.events) c.hand_back.ensures.ends) noted.tally
     c.sum_up-summary.ensures

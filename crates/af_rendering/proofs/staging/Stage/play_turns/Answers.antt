@@ -1,78 +1,73 @@
-use Rattle.std.proofs.Common.{◌≡◌, ◌*◌, ◌≤◌, ℕ, List, Some, OnOk, OnErr, length, take, sym, ap, subst, ◌∙◌, arith}
-use Rattle.af_rendering.proofs.Common.{All, IsReady, IsScript, IsTally, IsTurn, LeavesFront, Roomy, RoundNoted, SessionState, SetsFile, TrackSpec, TurnSpec, nothing_shown, pcm_of}
-use Rattle.af_rendering.specs.Rendered.{Runs}
-use Rattle.af_rendering.proofs.FirstRound.{empty_first, frames_first, ready_first, rendered}
-use Rattle.af_rendering.proofs.StagesRun.{has_rendered, in_frames, silent_so_far}
+use Rattle.std.proofs.Common.{◌≡◌, ◌*◌, ◌<◌, ◌≤◌, ◌^◌, ℕ, [], Some, OnErr, OnOk, inr, length, refl, ap, sym, subst, ◌∙◌, arith}
+use Rattle.std.proofs.lemmas.Result.{on_err_weaker, on_ok_weaker}
+use Rattle.af_rendering.proofs.Common.{All, FitsEntry, IsFrame, IsScript, IsTally, LeavesFront, Logged, Rig, Roomy, RoundsNoted, ScriptData, SessionState, SetsFile, nothing_shown, pcm_of}
+use Rattle.af_rendering.specs.Rendered.{LeavesSound}
+use Rattle.af_rendering.specs.SoFar.{HasPlayedTo, noted_of}
+use Rattle.af_rendering.specs.Stages.{HasRendered}
+use Rattle.af_rendering.specs.declared.staging.Stage.{Stage}
+use Rattle.af_session.specs.Rooms.{given_of}
+use Rattle.af_rendering.proofs.ComeSoFar.{come, played_none}
+use Rattle.af_rendering.proofs.FirstRound.{frames_first, silent_first}
+use Rattle.af_rendering.proofs.StagesRun.{has_rendered, new_room}
 use Rattle.af_rendering.proofs.staging.Stage.play_turns.Goals as goal
 
--- the rig has the tracks of the script
-pub play_all-requires-clause-turns : goal.play_all-requires-clause-turns
-play_all-requires-clause-turns g c =
-    let script : IsScript c.args.script.now = c.turns.ensures.script in
-    subst (λ (x : List TrackSpec × List TurnSpec). All (IsTurn (length x.0)) x.1) (λ k. (sym c.tracks-tracks.ensures.value k, sym c.turns.ensures.value k)) script.turns
-
-pub play_all-requires-clause-few : goal.play_all-requires-clause-few
-play_all-requires-clause-few g c =
-    let script : IsScript c.args.script.now = c.turns.ensures.script in
-    subst (λ (x : List TurnSpec). length x ≤ 100000) (sym c.turns.ensures.value) script.turn_count
-
-pub play_all-requires-clause-room : goal.play_all-requires-clause-room
-play_all-requires-clause-room g c =
+pub play_rounds-sent-requires-clause-between : goal.play_rounds-sent-requires-clause-between
+play_rounds-sent-requires-clause-between g c =
     let s = c.args.self.now in
-    let new = c.requires.new.room in
-    let bytes : s.room.bytes.room ≡ 256 * c.args.script.now.frames = ap (λ (b : Roomy ℕ). b.room) new.bytes in
-    let none : length s.room.bytes.items ≡ 0 = ap (λ (b : Roomy ℕ). length b.items) new.bytes in
-    let same = frames_first c.args.script.now s.shared s.parties c.requires.new.new c.args.files.now in
-    record { buffer = new.buffer ∙ sym same; bytes = omega (arith, same, bytes); waits = omega (arith, none) }
+    let rig : Rig = record { links = c.links-links.result; tracks = c.tracks-tracks.result; files = c.args.files } in
+    played_none c.args.script.now rig c.tracks-tracks.ensures.value s.shared s.parties c.requires.new.new c.requires.files (c.requires.new.together c.links-links.result c.links-links.ensures) s.room.tally c.requires.new.room.tally
 
-pub play_all-requires-clause-ready : goal.play_all-requires-clause-ready
-play_all-requires-clause-ready g c =
+pub play_rounds-sent-requires-clause-came : goal.play_rounds-sent-requires-clause-came
+play_rounds-sent-requires-clause-came g c =
     let s = c.args.self.now in
-    let links = c.links-links.result in
-    subst (λ (x : List TrackSpec). IsReady links (record { tracks = x; files = c.args.files.now }) 0 s.parties) (sym c.tracks-tracks.ensures.value)
-    (ready_first c.args.script.now s.shared s.parties c.requires.new.new c.args.files.now links c.requires.files (c.requires.new.together links c.links-links.ensures))
+    let rig : Rig = record { links = c.links-links.result; tracks = c.tracks-tracks.result; files = c.args.files } in (
+      0,
+      come c.args.script.now rig 0 s.parties s.room.tally
+          (played_none c.args.script.now rig c.tracks-tracks.ensures.value s.shared s.parties c.requires.new.new c.requires.files (c.requires.new.together c.links-links.result c.links-links.ensures) s.room.tally c.requires.new.room.tally),
+    )
 
-pub play_all-requires-clause-none : goal.play_all-requires-clause-none
-play_all-requires-clause-none g c = ap (λ (b : Roomy ℕ). b.items) c.requires.new.room.bytes
+pub play_rounds-sent-requires-clause-room : goal.play_rounds-sent-requires-clause-room
+play_rounds-sent-requires-clause-room g c = new_room c.args.script.now c.args.self.now c.requires.new
 
-pub play_all-requires-clause-log : goal.play_all-requires-clause-log
-play_all-requires-clause-log g c = let s = c.args.self.now in empty_first c.args.script.now s.shared s.parties c.requires.new.new c.args.files.now
-
-pub play_all-requires-clause-tally : goal.play_all-requires-clause-tally
-play_all-requires-clause-tally g c =
-    let s = c.args.self.now in
-    let frames = frames_first c.args.script.now s.shared s.parties c.requires.new.new c.args.files.now in
-    subst (λ (x : ℕ × List TrackSpec). IsTally (nothing_shown x.0 (length x.1)) s.room.tally) (λ i. (sym frames i, sym c.tracks-tracks.ensures.value i)) c.requires.new.room.tally
-
-pub returns-clause-some : goal.returns-clause-some
-returns-clause-some g c =
-    let files = c.args.files.now in
-    let s = c.args.self.now in
-    let was : SessionState = s.parties in
-    let is : SessionState = c.play_all.new.parties in
-    let n : ℕ = c.play_all.ensures.run.0 in
-    let played : List RoundNoted = c.play_all.ensures.run.1 in
-    let runs : Runs (record { tracks = c.args.script.now.tracks; files = files }) (take n c.args.script.now.turns) was played is =
-    subst (λ (x : List TrackSpec × List TurnSpec). Runs (record { tracks = x.0; files = files }) (take n x.1) was played is) (λ k. (c.tracks-tracks.ensures.value k, c.turns.ensures.value k)) c.play_all.ensures.run.2 in
-    (n, (played, rendered c.args.script.now s.shared was c.requires.new.new files (take n c.args.script.now.turns) played is runs))
+pub play_rounds-sent-requires-clause-silent : goal.play_rounds-sent-requires-clause-silent
+play_rounds-sent-requires-clause-silent g c = let s = c.args.self.now in silent_first c.args.script.now s.shared s.parties c.requires.new.new [] s.parties.fast.frames
 
 pub returns-clause-rendered : goal.returns-clause-rendered
 returns-clause-rendered g c =
-    let s = c.args.self.now in
-    let was : SessionState = s.parties in
     let script = c.args.script.now in
-    let new = c.requires.new.new in
-    let done = c.play_all.ensures in
-    has_rendered script s.shared was new c.args.files.now c.links-links.result c.tracks-tracks.result.now c.tracks-tracks.ensures.value (record { shared = _; parties = _; room = _; rounds = c.args.self.now.rounds }) (done.kept.released ∙ c.requires.new.room.released) c.turns.result.now c.turns.ensures.value c.play_all.result
-    done.ready done.all done.frames
+    let rig : Rig = record { links = c.links-links.result; tracks = c.tracks-tracks.result; files = c.args.files } in
+    let s : Stage = record { shared = c.args.self.now.shared; parties = c.play_rounds-sent.new.parties; room = c.play_rounds-sent.new.room } in
+    let log : c.log-log.result.now ≡ s.parties.fast.log = c.log-log.ensures ∙ ap (λ (x : SessionState). x.fast.log) c.parties.view_is in
+    let samples : All IsFrame s.parties.fast.log.frames = subst (All IsFrame) (c.frames.ensures ∙ ap (λ (l : Logged). l.frames) log) c.know_frames.ensures in
+    let entries : All FitsEntry s.parties.fast.log.entries = subst (λ (l : Logged). All FitsEntry l.entries) log c.know_log.ensures in
+    let n : ℕ = c.play_rounds-sent.new.notes in
+    on_ok_weaker c.play_rounds-sent.result
+    (λ (done : HasPlayedTo script rig n s.parties s.room.tally × (length script.turns ≤ n)).
+    let rendered : (rounds : RoundsNoted) × HasRendered script c.args.files.now rounds s =
+    (noted_of (given_of rig) done.0.rounds, has_rendered script rig s (c.play_rounds-sent.ensures.kept.released ∙ c.requires.new.room.released) n done.0 done.1 samples entries) in
+    rendered)
+    c.play_rounds-sent.ensures.over
 
-pub returns-clause-sent : goal.returns-clause-sent
-returns-clause-sent g c = λ told base set.
+pub returns-clause-written : goal.returns-clause-written
+returns-clause-written g c = λ told.
     let s = c.args.self.now in
     let script = c.args.script.now in
-    let is : SessionState = c.play_all.new.parties in
+    let r = c.play_rounds-sent.result in
+    let base = g.S.Store.files c.args.store.now in
+    let new = g.S.Store.files c.play_rounds-sent.new.store in
+    let log : Logged = c.play_rounds-sent.new.parties.fast.log in
+    subst (λ (n : ℕ). OnOk r (SetsFile base c.args.name.now (Some (pcm_of n log)) new)) (frames_first script s.shared s.parties c.requires.new.new []) (c.play_rounds-sent.ensures.written told)
+
+pub returns-clause-left : goal.returns-clause-left
+returns-clause-left g c = λ told.
+    let s = c.args.self.now in
+    let script = c.args.script.now in
     let name = c.args.name.now in
-    let r = c.play_all.result in
-    let new = g.S.Store.files c.play_all.new.store in
-    in_frames script s.shared s.parties c.requires.new.new base name (λ (n : ℕ). OnOk r (SetsFile base name (Some (pcm_of n is.fast.log)) new) × OnErr r (LeavesFront base name (pcm_of n is.fast.log) new))
-    (c.play_all.ensures.sent told base (silent_so_far script s.shared s.parties c.requires.new.new base name (g.S.Store.files c.args.store.now) set))
+    let r = c.play_rounds-sent.result in
+    let base = g.S.Store.files c.args.store.now in
+    let new = g.S.Store.files c.play_rounds-sent.new.store in
+    let is : SessionState = c.play_rounds-sent.new.parties in
+    let came = c.play_rounds-sent.ensures.came in
+    on_err_weaker r
+    (λ (front : LeavesFront base name (pcm_of script.frames is.fast.log) new). let left : LeavesSound script c.args.files.now name base new = inr (came.0, is, came.1, front) in left)
+    (subst (λ (n : ℕ). OnErr r (LeavesFront base name (pcm_of n is.fast.log) new)) (frames_first script s.shared s.parties c.requires.new.new []) (c.play_rounds-sent.ensures.left told))

@@ -2,7 +2,7 @@ use Rattle.std.proofs.Common.{◌≡◌, ◌++◌, ◌∙◌, ℕ, List, [], Som
 use Rattle.std.proofs.lemmas.Result.{on_ok_weaker}
 use Rattle.af_rendering.proofs.Common.{LeavesFront, Roomy, SetsFile}
 use Rattle.af_rendering.proofs.Waiting.{none_wait}
-use Rattle.af_rendering.proofs.playing.send_waiting.Goals as goal
+use Rattle.af_rendering.proofs.rounds.send_waiting.Goals as goal
 
 pub returns-clause-sent : goal.returns-clause-sent
 returns-clause-sent g c = λ told base sound held.

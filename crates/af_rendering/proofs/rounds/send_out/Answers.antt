@@ -1,6 +1,6 @@
 use Rattle.std.proofs.Common.{rules, ◌≡◌, length}
 use Rattle.af_rendering.proofs.Outgoing.{nothing_sent, sent_all, sent_front}
-use Rattle.af_rendering.proofs.playing.send_out.Goals as goal
+use Rattle.af_rendering.proofs.rounds.send_out.Goals as goal
 
 pub returns-then-is_empty-clause-sent : goal.returns-then-is_empty-clause-sent
 returns-then-is_empty-clause-sent g c = λ told out base set.
