@@ -4,7 +4,7 @@ use Rattle.af_base.specs.declared.frame.Frame.{Frame}
 use Rattle.af_enough.specs.Enough.{HasEnoughCycles}
 use Rattle.af_nblog.specs.declared.entries.Note.{Note}
 use Rattle.af_nblog.specs.LogText.{log_text}
-use Rattle.af_model.specs.Journals.{JournalData, journal_of}
+use Rattle.af_model.specs.Journals.{JournalData, RoundsNoted, journal_of}
 use Rattle.af_io.specs.Files.{Files, SetsFile}
 use Rattle.af_runs.specs.LegalRuns.{IsCutRun, IsLegalRun}
 use Rattle.af_runs.specs.Pcm.{journal_pcm}
@@ -20,15 +20,15 @@ use Rattle.af_playing.specs.PlayedRuns.{AtFault, AtLimit, HandsBackRun, KeepsPro
 use Rattle.af_session.specs.Shown.{shown_by, summary_told}
 use Rattle.af_tally.specs.Steps.{AreFew}
 
--- The journal and the ends of a stage are handed back: if all parties have ended with the summary, and else as cut off at the limit, in whose place alone Memory may stand. By itself, the journal of a play that is done is that of a legal run, and the journal of one that was cut off is that of a cut run
-pub record Answers (script : ScriptData) (files : List (List Frame)) (s : Stage) (result : Result Played PlayFault) : Type 0 where
+-- The journal of these rounds and the ends of a stage are handed back: if all parties have ended with the summary, and else as cut off at the limit, in whose place alone Memory may stand. By itself, the journal of a play that is done is that of a legal run, and the journal of one that was cut off is that of a cut run
+pub record Answers (script : ScriptData) (files : List (List Frame)) (rounds : RoundsNoted) (s : Stage) (result : Result Played PlayFault) : Type 0 where
   pub ended : IfOk result (λ _. all_ended s.parties ≡ true)
-  pub journal : IfOk result (λ p. p.journal ≡ journal_of s.rounds s.parties.fast.log)
+  pub journal : IfOk result (λ p. p.journal ≡ journal_of rounds s.parties.fast.log)
   pub enough : IsScript script → HasEnoughCycles script → IfErr result (λ _. ⊥)
   pub ends : IfOk result (λ p. p.ends ≡ ends_from s.parties)
   pub summary : IfOk result (λ p. p.summary ≡ summary_told script.frames p.journal p.ends)
   pub legal : IfOk result (λ p. IsLegalRun script files p.journal)
-  pub cut : IfErr result (λ f. (all_ended s.parties ≡ false) × ((f ≡ fault.CycleLimit (journal_of s.rounds s.parties.fast.log) (ends_from s.parties)) ⊎ (f ≡ fault.Memory)))
+  pub cut : IfErr result (λ f. (all_ended s.parties ≡ false) × ((f ≡ fault.CycleLimit (journal_of rounds s.parties.fast.log) (ends_from s.parties)) ⊎ (f ≡ fault.Memory)))
   pub cut_run : IfErr result (AtLimit (λ journal _. IsCutRun script files journal))
 
 -- ## What is promised of a play, whatever the store

@@ -1,28 +1,66 @@
--- What a stage is once all parties were played on it.
-use Rattle.std.specs.Prelude.{◌≡◌, ◌≤◌, ℕ, List, [], ◌∷◌, ◌++◌, length, Option, Some, true, false}
+-- What a stage is once all parties were played on it, and between two rounds.
+use Rattle.std.specs.Prelude.{◌≡◌, ◌≤◌, ℕ, zero, suc, List, [], ◌∷◌, ◌++◌, length, Option, Some, None, true, false}
 use Rattle.af_base.specs.declared.frame.Frame.{Frame}
+use Rattle.af_base.specs.declared.state.FastState.{FastState}
+use Rattle.af_engine.specs.Shares.{SharedState}
 use Rattle.af_io.specs.Files.{Files, SetsFile}
 use Rattle.af_model.specs.Journals.{RoundNoted, RoundsNoted}
 use Rattle.af_script.specs.Data.{ScriptData}
 use Rattle.af_rendering.specs.declared.staging.Stage.{Stage}
-use Rattle.af_playing.specs.PlayedRuns.{LeavesRun, Plays, all_ended, is_full}
+use Rattle.af_playing.specs.PlayedRuns.{LeavesRun, Plays, RunsOfAll, all_ended, is_full}
+use Rattle.af_playing.specs.declared.noted.Noted.{Noted}
 use Rattle.af_playing.specs.declared.piece.Piece.{Piece}
+use Rattle.af_rendering.specs.SoFar.{AreNoted}
 use Rattle.af_rendering.specs.Stages.{IsNoted}
+use Rattle.af_session.specs.NewSession.{IsNewSession}
+use Rattle.af_session.specs.Rooms.{HasPlacesAt, IsReadyOn, KeepsSizes, given_of}
+use Rattle.af_session.specs.Shown.{shown_at}
+use Rattle.af_session.specs.Together.{SessionState}
+use Rattle.af_session.specs.declared.rig.Rig.{Rig}
 use Rattle.af_side_by_side.specs.Logging.{LoggingState, LogsPlay}
 use Rattle.af_tally.specs.Sound.{pcm_of}
+use Rattle.af_tally.specs.Tallies.{IsTally, Tallied}
 
--- all parties were played on a stage to their end, or to the end of the log
-pub record HasPlayed (script : ScriptData) (files : List (List Frame)) (s : Stage) : Type 0 where
-  pub all : Plays script files s.rounds.rounds s.parties
+-- all parties were played on a stage to their end, or to the end of the log, in these rounds
+pub record HasPlayed (script : ScriptData) (files : List (List Frame)) (rounds : RoundsNoted) (s : Stage) : Type 0 where
+  pub all : Plays script files rounds.rounds s.parties
   pub over : all_ended s.parties ≡ false → is_full s.parties ≡ true
-  pub few : length s.rounds.rounds ≤ script.cycles
-  pub noted : IsNoted script s
+  pub few : length rounds.rounds ≤ script.cycles
+  pub noted : IsNoted script rounds s
   pub frames : s.parties.fast.frames ≡ script.frames
   pub entries : length s.parties.fast.log.entries ≤ s.parties.fast.cycles
 
 -- a round more was noted
 abbrev pub NotesRound : RoundNoted → RoundsNoted → RoundsNoted → Type 0
 NotesRound r noted noted' = noted' ≡ record noted { rounds = noted.rounds ++ r ∷ [] }
+
+-- ## Between two rounds
+
+-- for how many notes a log is kept, if one is
+abbrev pub kept_in : ℕ → Option ℕ
+kept_in zero = None
+kept_in (suc n) = Some (suc n)
+
+-- nothing is noted yet of so many tracks
+abbrev pub NotesNone : ℕ → Noted → Type 0
+NotesNone tracks noted = noted.rounds ≡ record { tracks = tracks; rounds = [] }
+
+-- The rounds noted were played by the parties since they were made of the script, and they are ready for another; the tally is that of the rounds, and the log, if one is kept, has their notes
+pub record HasPlayedRounds (script : ScriptData) (kept : Option ℕ) (rig : Rig) (noted : Noted) (t : SessionState) (tally : Tallied) : Type 0 where
+  pub here : rig.tracks.now ≡ script.tracks
+  pub shared : SharedState
+  pub start : SessionState
+  pub new : IsNewSession script shared start
+  pub run : RunsOfAll (given_of rig) start noted.rounds.rounds t
+  pub few : length noted.rounds.rounds ≤ script.cycles
+  pub ready : IsReadyOn rig (length noted.rounds.rounds) t
+  pub tally_is : (state : FastState) → IsTally (shown_at state (length rig.tracks.now) noted.rounds.rounds t.fast) tally
+  pub places : HasPlacesAt (length noted.rounds.rounds) t tally
+  pub form : AreNoted (length rig.tracks.now) noted.rounds t.fast.log
+  pub sizes : KeepsSizes start.fast t.fast
+  pub log : LogsPlay kept t.fast noted.rounds.rounds noted.logging
+
+-- ## What is left
 
 -- the file of a piece holds the sound of what was played on a stage, and no other has changed
 abbrev pub SetsSound : Piece → Stage → Files → Files → Type 0
@@ -32,6 +70,6 @@ SetsSound piece s old new = SetsFile old piece.name.now (Some (pcm_of piece.scri
 abbrev pub LeavesPiece : Piece → Files → Files → Type 0
 LeavesPiece piece old new = LeavesRun piece.script.now piece.files.now piece.name.now old new
 
--- a log with this room is kept of what was played on a stage, or none is
-abbrev pub LogsOn : Option ℕ → Stage → LoggingState → Type 0
-LogsOn kept s l = LogsPlay kept s.parties.fast s.rounds.rounds l
+-- a log with this room is kept of these rounds of a stage, or none is
+abbrev pub LogsOn : Option ℕ → Noted → Stage → Type 0
+LogsOn kept noted s = LogsPlay kept s.parties.fast noted.rounds.rounds noted.logging

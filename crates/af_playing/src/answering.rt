@@ -14,7 +14,7 @@ use crate::playing_of_all::have_ended;
 use af_audit::judge;
 use af_base::Memory;
 use af_io::{Pcm, StoreError};
-use af_model::Journal;
+use af_model::{Journal, Rounds};
 use af_play_law::a_play_is_told_by_its_journal;
 use af_rendering::{Ends, Played, Stage, hand_over};
 use af_script::Script;
@@ -58,16 +58,16 @@ impl From<Memory> for PlayFault {
 }
 
 // What is handed back if all parties have ended. Its journal is legal by the law on plays, whatever the threads did.
-fn whole(stage: Stage, script: &Script, files: &[Pcm]) -> Played
-    requires played { HasPlayed script.now files.now stage }
+fn whole(stage: Stage, rounds: Rounds, script: &Script, files: &[Pcm]) -> Played
+    requires played { HasPlayed script.now files.now rounds stage }
     requires ended { all_ended stage.parties ≡ true }
-    ensures journal { result.journal ≡ journal_of stage.rounds stage.parties.fast.log }
+    ensures journal { result.journal ≡ journal_of rounds stage.parties.fast.log }
     ensures ends { result.ends ≡ ends_from stage.parties }
     ensures summary { result.summary ≡ summary_told script.now.frames result.journal result.ends }
     ensures legal { IsLegalRun script.now files.now result.journal }
 {
     a_play_is_told_by_its_journal();
-    stage.finish()
+    stage.finish(rounds)
 }
 
 // Judges by itself the journal of a play that was cut off, as anyone may. Memory says that an allocation was refused, that the journal isn't that of a cut run, or that it is longer than the judge counts. No play has come to the last two.
@@ -83,14 +83,20 @@ fn judged(alloc: Global, script: &Script, files: &[Pcm], journal: &Journal) -> R
 }
 
 // What is handed back if the log is full before all parties have ended, once the journal was judged.
-fn cut_off(stage: Stage, alloc: Global, script: &Script, files: &[Pcm]) -> Result<Played, PlayFault>
-    requires played { HasPlayed script.now files.now stage }
+fn cut_off(
+    stage: Stage,
+    rounds: Rounds,
+    alloc: Global,
+    script: &Script,
+    files: &[Pcm],
+) -> Result<Played, PlayFault>
+    requires played { HasPlayed script.now files.now rounds stage }
     requires files { HaveFiles (record { tracks = script.now.tracks; files = files.now }) }
     ensures never { IfOk result (λ _. ⊥) }
-    ensures cut { IfErr result (λ f. (f ≡ CycleLimit (journal_of stage.rounds stage.parties.fast.log) (ends_from stage.parties)) ⊎ (f ≡ MemoryFault)) }
+    ensures cut { IfErr result (λ f. (f ≡ CycleLimit (journal_of rounds stage.parties.fast.log) (ends_from stage.parties)) ⊎ (f ≡ MemoryFault)) }
     ensures cut_run { IfErr result (AtLimit (λ journal _. IsCutRun script.now files.now journal)) }
 {
-    let (journal, ends) = hand_over(stage.parties, stage.rounds);
+    let (journal, ends) = hand_over(stage.parties, rounds);
     match judged(alloc, script, files, &journal) {
         Ok(()) => Err(PlayFault::CycleLimit { journal, ends }),
         Err(_) => {
@@ -101,19 +107,20 @@ fn cut_off(stage: Stage, alloc: Global, script: &Script, files: &[Pcm]) -> Resul
     }
 }
 
-/// What a play answers for a stage that was played to its end, or to the end of the log. If all parties have ended the answer is Ok, and no memory is taken. A play that was cut off is judged before it is handed back, with CycleLimit, and only for such a play the answer may be Memory.
+/// What a play answers for a stage that was played to its end, or to the end of the log, in these rounds. If all parties have ended the answer is Ok, and no memory is taken. A play that was cut off is judged before it is handed back, with CycleLimit, and only for such a play the answer may be Memory.
 pub fn answer(
     stage: Stage,
+    rounds: Rounds,
     alloc: Global,
     script: &Script,
     files: &[Pcm],
 ) -> Result<Played, PlayFault>
-    requires played { HasPlayed script.now files.now stage }
+    requires played { HasPlayed script.now files.now rounds stage }
     requires files { HaveFiles (record { tracks = script.now.tracks; files = files.now }) }
-    ensures { Answers script.now files.now stage result }
+    ensures { Answers script.now files.now rounds stage result }
 {
     if have_ended(&stage.parties) {
-        return Ok(whole(stage, script, files));
+        return Ok(whole(stage, rounds, script, files));
     }
-    cut_off(stage, alloc, script, files)
+    cut_off(stage, rounds, alloc, script, files)
 }

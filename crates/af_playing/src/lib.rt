@@ -2,6 +2,7 @@
 #![tactic(auto)]
 
 mod answering;
+mod noted;
 mod piece;
 mod play_of_all;
 mod playing_of_all;

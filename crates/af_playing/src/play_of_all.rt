@@ -1,52 +1,57 @@
 //! A script's rounds from first to last, in which each party is on its own.
-ghost use Rattle.std.specs.Prelude.{◌≡◌, ◌≤◌, ℕ, Option, Some, Err, IfErr, IfOk, OnErr, OnOk};
+ghost use Rattle.std.specs.Prelude.{◌≡◌, ◌≤◌, ℕ, Some, Err, length, IfErr, IfOk, OnErr, OnOk};
 ghost use Rattle.af_enough.specs.Enough.{HasEnoughCycles};
 ghost use Rattle.af_playing.specs.declared.answering.PlayFault.TheVariants.{Memory as MemoryFault};
 ghost use Rattle.af_playing.specs.InTime.{EndsInTime};
 ghost use Rattle.af_playing.specs.PlayedRuns.{AtLimit, HandedBack, HasStoreCause};
 ghost use Rattle.af_playing.specs.Pieces.{given_by};
+ghost use Rattle.af_playing.specs.PlayedStages.{NotesNone, kept_in};
 ghost use Rattle.af_playing.specs.PlayKept.{AppendsLogOfPlay, IsCutPlay, IsDonePlay, KeepsFiles, KeepsPlay, TellsLogOf, TookFew};
 ghost use Rattle.af_rendering.specs.Rendered.{HaveFiles};
 ghost use Rattle.af_side_by_side.specs.Logging.{BeginsLog, HasLogOf};
 
 use crate::answering::{PlayFault, answer};
+use crate::noted::Noted;
 use crate::piece::Piece;
 use crate::playing_of_all::play_to_end;
 use af_audit::drained_tracks_have_reached_their_stop;
 use af_base::Memory;
 use af_io::{Gate, Store};
+use af_model::Rounds;
 use af_rendering::{Played, Stage};
 use af_side_by_side::Logging;
 use af_tally::Costs;
 use std::alloc::Global;
-use std::mem::drop;
+use std::mem::{drop, replace};
 use std::thread::Threads;
 
-// Plays a script in rounds, with a log or without.
+// Plays a script in rounds, with a log if the piece has room for notes.
 fn play_with<R: Threads + Sync, S: Store, G: Gate>(
     rt: &R,
     alloc: Global,
     piece: &Piece<'_>,
     store: &mut S,
-    logging: &mut Logging,
+    noted: &mut Noted,
     gate: &G,
     steps: &mut Costs,
 ) -> Result<Played, PlayFault>
     requires files { HaveFiles (given_by piece.now) }
-    requires log { (kept : Option ℕ) × BeginsLog kept piece.now.script.now.cycles logging.old }
+    requires none { NotesNone (length piece.now.script.now.tracks) noted.old }
+    requires log { BeginsLog (kept_in piece.now.room) piece.now.script.now.cycles noted.old.logging }
     ensures keeps { KeepsPlay piece.now.script.now piece.now.files.now result }
     ensures files { S.told store.old → KeepsFiles piece.now.script.now piece.now.files.now piece.now.name.now (S.files store.old) (S.files store.new) result }
     ensures tells { S.told store.old → S.told store.new }
     ensures cause { HasStoreCause (S.faults store.old) (S.faults store.new) result }
-    ensures log { (kept : Option ℕ) → BeginsLog kept piece.now.script.now.cycles logging.old → TellsLogOf kept piece.now.script.now.frames result logging.new }
+    ensures log { TellsLogOf (kept_in piece.now.room) piece.now.script.now.frames result noted.new.logging }
     ensures steps { HandedBack (TookFew piece.now.script.now.frames steps.new.items) result }
 {
     drained_tracks_have_reached_their_stop();
     let mut stage = Stage::make(alloc, piece.script)?;
-    match play_to_end(&mut stage, rt, alloc, piece, store, logging, gate) {
+    match play_to_end(&mut stage, rt, alloc, piece, store, noted, gate) {
         Ok(()) => {
             *steps = stage.room.tally.steps();
-            answer(stage, alloc, piece.script, piece.files)
+            let rounds = replace(&mut noted.rounds, Rounds::new(alloc, 0));
+            answer(stage, rounds, alloc, piece.script, piece.files)
         }
         Err(error) => {
             drop(stage);
@@ -78,8 +83,10 @@ pub fn play<R: Threads + Sync, S: Store, G: Gate>(
     ensures cause { HasStoreCause (S.faults store.old) (S.faults store.new) result }
     ensures steps { HandedBack (TookFew piece.now.script.now.frames steps.new.items) result }
 {
-    let mut logging = Logging::none(alloc)?;
-    play_with(rt, alloc, piece, store, &mut logging, gate, steps)
+    let logging = Logging::none(alloc)?;
+    let mut noted = Noted::of(alloc, piece.script, logging);
+    let quiet = Piece { room: 0, ..*piece };
+    play_with(rt, alloc, &quiet, store, &mut noted, gate, steps)
 }
 
 // If all parties have ended, drains what is left of a log, and appends its text. Memory if an allocation was refused: then `text` is as before. No other refusal comes.
@@ -140,9 +147,10 @@ pub fn play_logged<R: Threads + Sync, S: Store, G: Gate>(
         × OnErr result (text.new.items ≡ text.old.items) }
     ensures steps { HandedBack (TookFew piece.now.script.now.frames steps.new.items) result }
 {
-    let mut logging = Logging::of(alloc, piece.room, piece.script.cycles())?;
-    let played = play_with(rt, alloc, piece, store, &mut logging, gate, steps);
-    let told = tell(&mut logging, alloc, &played, text);
-    drop(logging);
+    let logging = Logging::of(alloc, piece.room, piece.script.cycles())?;
+    let mut noted = Noted::of(alloc, piece.script, logging);
+    let played = play_with(rt, alloc, piece, store, &mut noted, gate, steps);
+    let told = tell(&mut noted.logging, alloc, &played, text);
+    drop(noted);
     hand_on(played, told)
 }

@@ -1,11 +1,11 @@
 //! The rounds of all parties from first to last, and the file of what they mixed.
-ghost use Rattle.std.specs.Prelude.{◌≡◌, ◌+◌, ◌<◌, ◌≤◌, ◌^◌, ℕ, true, false, [], Option, length, map, IfOk, OnOk, OnErr};
+ghost use Rattle.std.specs.Prelude.{◌≡◌, ◌+◌, ◌-◌, ◌<◌, ◌≤◌, ◌^◌, ℕ, true, false, List, [], length, map, IfOk, OnOk, OnErr};
 ghost use Rattle.std.specs.List.{list_all};
 ghost use Rattle.af_io.specs.Causes.{HasCause};
-ghost use Rattle.af_model.specs.Journals.{cycles_of};
+ghost use Rattle.af_model.specs.Journals.{RoundNoted, cycles_of};
 ghost use Rattle.af_playing.specs.Pieces.{given_by};
-ghost use Rattle.af_playing.specs.PlayedRuns.{GoesOn, all_ended, is_full};
-ghost use Rattle.af_playing.specs.PlayedStages.{HasPlayed, LeavesPiece, LogsOn, NotesRound, SetsSound};
+ghost use Rattle.af_playing.specs.PlayedRuns.{GoesOn, Plays, all_ended, is_full};
+ghost use Rattle.af_playing.specs.PlayedStages.{HasPlayed, HasPlayedRounds, LeavesPiece, LogsOn, NotesNone, NotesRound, SetsSound, kept_in};
 ghost use Rattle.af_rendering.specs.Rendered.{HaveFiles};
 ghost use Rattle.af_rendering.specs.Stages.{IsNewStage};
 ghost use Rattle.af_session.specs.Noted.{NotesFrames};
@@ -13,14 +13,15 @@ ghost use Rattle.af_session.specs.Together.{SessionState};
 ghost use Rattle.af_side_by_side.specs.Logging.{LogsPlay};
 ghost use Rattle.af_side_by_side.specs.SideBySide.{all_noted};
 
+use crate::noted::Noted;
 use crate::piece::Piece;
 use af_base::{ClientCall, Memory};
 use af_io::{Gate, Store, StoreError};
 use af_model::Rounds;
 use af_party::Party;
-use af_rendering::{Stage, send_out};
-use af_session::{Parties, Rig, copied_turn, know_frames};
-use af_side_by_side::{Logging, round_of_all};
+use af_rendering::{Playing, Stage, play_rounds};
+use af_session::{Parties, Rig, Room, copied_turn, know_frames};
+use af_side_by_side::round_of_all;
 use std::alloc::Global;
 use std::thread::Threads;
 
@@ -76,7 +77,7 @@ fn note_all(
 }
 
 // Whether some party goes on, and the log has room for an entry.
-fn goes_on(parties: &Parties, cycles: u32) -> bool
+fn is_going(parties: &Parties, cycles: u32) -> bool
     requires cycles { cycles ≡ parties.now.fast.cycles }
     ensures yes { result ≡ true → GoesOn parties.now }
     ensures no { result ≡ false → all_ended parties.now ≡ false → is_full parties.now ≡ true }
@@ -84,34 +85,80 @@ fn goes_on(parties: &Parties, cycles: u32) -> bool
     !have_ended(parties) && parties.fast.log().len() != cycles as usize
 }
 
-/// Makes the file, and plays rounds of all parties until all have ended, or the log has all of its entries. Each round is noted, in the tally too, and the bytes of its mixed cycles are added to the file as one piece, if there are some.
+// The rounds of a play, in each of which every party that hasn't ended makes one turn, at the same time as the others.
+#[derive(Drop)]
+struct AllAtOnce<'a, 'b, 'c, 'd, 'e, 'f, 'g, R, G> {
+    rt: &'a R,
+    gate: &'b G,
+    alloc: Global,
+    piece: &'c Piece<'d>,
+    rig: Rig<'e, 'f, 'g>,
+}
+
+impl<R: Threads + Sync, G: Gate> Playing for AllAtOnce<'_, '_, '_, '_, '_, '_, '_, R, G> {
+    type Notes = Noted;
+
+    ghost between = { λ p noted t tally. HasPlayedRounds p.piece.now.script.now (kept_in p.piece.now.room) p.rig noted t tally };
+
+    ghost came = { λ p t. (rounds : List RoundNoted) × Plays p.piece.now.script.now p.rig.files.now rounds t };
+
+    ghost going = { λ p noted t. GoesOn t };
+
+    ghost over = { λ p noted t. all_ended t ≡ false → is_full t ≡ true };
+
+    ghost left = { λ p noted t. p.piece.now.script.now.cycles - length noted.rounds.rounds };
+
+    fn goes_on(&self, _noted: &Noted, parties: &Parties) -> bool {
+        is_going(parties, self.piece.script.cycles())
+    }
+
+    fn round(
+        &self,
+        noted: &mut Noted,
+        parties: &mut Parties,
+        room: &mut Room,
+    ) -> Result<(), Memory> {
+        let had_ended = parties.normal.has_ended();
+        let entries = parties.fast.log().len();
+        round_of_all(
+            parties,
+            self.rt,
+            &self.rig,
+            room,
+            &mut noted.logging,
+            self.gate,
+        );
+        note_all(parties, self.alloc, had_ended, entries, &mut noted.rounds)
+    }
+}
+
+/// Makes the file, and plays rounds of all parties until all have ended, or the log has all of its entries. Each round is noted, in the tally too, and the bytes of its mixed cycles go to the file, in pieces of several rounds.
 ///
-/// What was played is a run of all parties with the rounds noted, and the file holds its sound. After a fault of the store (Store), or if an allocation was refused (Memory), some first rounds were played: no file has changed, or the file holds a front of their sound. The bytes of the last of them may be in the file, but it isn't noted.
+/// What was played is a run of all parties with the rounds noted, and the file holds its sound. After a fault of the store (Store), or if an allocation was refused (Memory), some first rounds were played, the last of which may not be noted: no file has changed, or the file holds a front of their sound.
 pub(crate) fn play_to_end<R: Threads + Sync, S: Store, G: Gate>(
     stage: &mut Stage,
     rt: &R,
     alloc: Global,
     piece: &Piece<'_>,
     store: &mut S,
-    logging: &mut Logging,
+    noted: &mut Noted,
     gate: &G,
 ) -> Result<(), StoreError>
     requires new { IsNewStage piece.now.script.now stage.old }
     requires files { HaveFiles (given_by piece.now) }
-    requires log { (kept : Option ℕ) × LogsPlay kept stage.old.parties.fast [] logging.old }
-    ensures played { OnOk result (HasPlayed piece.now.script.now piece.now.files.now stage.new) }
+    requires none { NotesNone (length piece.now.script.now.tracks) noted.old }
+    requires log { LogsPlay (kept_in piece.now.room) stage.old.parties.fast [] noted.old.logging }
+    ensures played { OnOk result (HasPlayed piece.now.script.now piece.now.files.now noted.new.rounds stage.new) }
     ensures written { S.told store.old → OnOk result (SetsSound piece.now stage.new (S.files store.old) (S.files store.new)) }
     ensures left { S.told store.old → OnErr result (LeavesPiece piece.now (S.files store.old) (S.files store.new)) }
     ensures tells { S.told store.old → S.told store.new }
     ensures cause { HasCause (S.faults store.old) (S.faults store.new) result }
-    ensures log { (kept : Option ℕ) → LogsPlay kept stage.old.parties.fast [] logging.old → OnOk result (LogsOn kept stage.new logging.new) }
+    ensures log { OnOk result (LogsOn (kept_in piece.now.room) noted.new stage.new) }
 {
-    store.create(piece.name)?;
     let Stage {
         shared,
         parties,
         room,
-        rounds,
     } = stage;
     let links = shared.links();
     let tracks = piece.script.tracks();
@@ -121,16 +168,16 @@ pub(crate) fn play_to_end<R: Threads + Sync, S: Store, G: Gate>(
         tracks,
         files,
     };
-    while goes_on(parties, piece.script.cycles()) {
-        let had_ended = parties.normal.has_ended();
-        let entries = parties.fast.log().len();
-        room.bytes.clear();
-        round_of_all(parties, rt, &rig, room, logging, gate);
-        send_out(store, piece.name, room.bytes.as_slice())?;
-        note_all(parties, alloc, had_ended, entries, rounds)?;
-    }
+    let all = AllAtOnce {
+        rt,
+        gate,
+        alloc,
+        piece,
+        rig,
+    };
+    let sent = play_rounds(&all, noted, parties, room, store, piece.name);
     let log = parties.fast.log();
     know_frames(log.frames());
-    rounds.know_numbers(log);
-    Ok(())
+    noted.rounds.know_numbers(log);
+    sent
 }
