@@ -1,15 +1,15 @@
 -- The report that a turn finds: it is told by the entries of the round without the state that the turn pushes, and goes on from the one before the round all the same.
-use Rattle.std.proofs.Common.{◌≡◌, ◌⊎◌, inl, inr, ℕ, ◌≤◌, ◌<◌, ◌||◌, ◌&&◌, if◌then◌else◌, unwrap_or, is_some, Bool, true, false, Option, Some, None, List, [], ◌∷◌, ◌++◌, length, length-append, refl, sym, ap, ◌∙◌, subst, arith, append_assoc, append-nil}
+use Rattle.std.proofs.Common.{◌≡◌, ◌⊎◌, inl, inr, ℕ, ◌+◌, ◌≤◌, ◌<◌, ◌||◌, ◌&&◌, if◌then◌else◌, unwrap_or, is_some, Bool, true, false, Option, Some, None, List, [], ◌∷◌, ◌++◌, length, length-append, refl, sym, ap, ◌∙◌, subst, arith, append_assoc, append-nil}
 use Rattle.af_enough_law.proofs.Common.{BlockTold, ClientEvent, CycleEntry, EntrySeen, FastState, FastTrack, HasBlockHistory, IsClientList, LegalEntries, LegalRound, Listed, Marks, NormalKept, Report, RoundSeen, Run, Seen, ServerEvent, Session, Shape, SlotReport, TrackTold, after_round, after_turn, before_turn, calls_states, carries, client_list, counted_look, cycle_events, cycle_frames, drops_none, early_count, early_of, ends_part, entry_slot, flushes_of, front_of, hand_list, initial, is_shown, is_tame, kept, known_of, known_some, last_report, last_used, last_used-push, late_of, listed, met_after, next_slot, no_slot, or_true, played, polled_other, polled_pushed, polled_waits, report_at, report_of, server_kept, server_list, slot_playing, slot_of, slot_report, slots, state_at, state_for, state_known, state_of, stream_of, take-append-drop, told_at, with_calls, with_cycle, with_cycles, with_looks, with_mix, with_poll}
 use Rattle.af_base.specs.declared.seen.Seen.TheVariants as seen
 use Rattle.af_runs.specs.Runs.{shows_slot}
-use Rattle.af_enough_law.proofs.FastWords.{AllUse, AllStates, Plays, slot_told, IsTold, LastCarries, IsShown, AllShown, Since, FlowsIn, HasItem}
+use Rattle.af_enough_law.proofs.FastWords.{AllUse, AllStates, Plays, slot_told, IsTold, LastCarries, IsShown, AllShown, Since, FlowsIn, HasItem, heard_in}
 use Rattle.af_enough_law.proofs.FastFlows.{cycle_later, later_both, Later, entries_take, cycles_later, plays_track, Lies, lies_before, entry_look}
-use Rattle.af_enough_law.proofs.FastReports.{slot_counts, last_more, calls_same, slot_same, last_same, told_same, known_quiet}
+use Rattle.af_enough_law.proofs.FastReports.{heard_one, reported, slot_counts, last_more, calls_same, slot_same, last_same, told_same, known_quiet}
 use Rattle.af_enough_law.proofs.FastPolls.{parts_use, fast_parts, use-append, turn_more}
 use Rattle.af_enough_law.proofs.FastRounds.{Quiet, over}
 use Rattle.af_enough_law.proofs.FastTakes.{flowed, quiet_none, quiet_unshut}
-use Rattle.af_enough_law.proofs.FastSince.{Adds, known_more, since_number}
+use Rattle.af_enough_law.proofs.FastSince.{Adds, adds_both, adds_none, known_more, since_number}
 use Rattle.af_enough_law.proofs.FastSteps.{cycle_states, cycle_track, mixed_stream, played_server, slot_only}
 use Rattle.af_enough_law.proofs.FastMixes.{uses_of, early_states, late_states, Uses}
 use Rattle.af_enough_law.proofs.FastShows.{Setting, stands-more}
@@ -118,10 +118,15 @@ abbrev pub AllOpen : Session → ℕ → List EntrySeen → Run → Type 0
 AllOpen s track [] run = Unit {0}
 AllOpen s track (e ∷ es) run = ((kept (listed (told_at (with_cycle s run e) track).stream)).shut ≡ None) × AllOpen s track es (with_cycle s run e)
 
--- what a report says that a turn finds: no count fell, and the server isn't shut
-pub record FoundFor (before now : SlotReport) (item : FastTrack) : Type 0 where
+-- the looks that showed frames, by a report
+abbrev pub shown_looks : SlotReport → ℕ
+shown_looks r = r.fulls + r.partials
+
+-- what a report says that a turn finds: no count fell, the server isn't shut, and no more looks showed frames than these
+pub record FoundFor (before : SlotReport) (most : ℕ) (now : SlotReport) (item : FastTrack) : Type 0 where
   pub since : Since before now item
   pub unshut : now.shut ≡ false
+  pub few : shown_looks now ≤ most
 
 pub record AddsOne (run later : Run) : Type 0 where
   pub report : Report
@@ -131,23 +136,45 @@ pub adds_one : (s : Session) (run : Run) (e : EntrySeen) → AddsOne run (with_c
 unfolding with_poll with_mix
 adds_one s run e = record { report = _; whole = refl }
 
-module _ (s : Session) (track i : ℕ) (item : FastTrack) (low : i < slots) (is : item.track ≡ track) (before : SlotReport) (n high : ℕ) where
-  pub entries_found : (es : List EntrySeen) (run : Run) → FoundNow s track i item before n run → AllUse n high es → AllShown i es → AllOpen s track es run
-      → Adds run (with_cycles s es run) (λ r. FoundFor before (report_at r.slots i) item)
-  entries_found [] run f uses shows opens = record { news = []; whole = sym (append-nil run.reports); each = tt }
-  entries_found (e ∷ es) run f uses shows opens =
+pub cycles_append : (s : Session) (xs ys : List EntrySeen) (run : Run) → with_cycles s (xs ++ ys) run ≡ with_cycles s ys (with_cycles s xs run)
+cycles_append s [] ys run = refl
+cycles_append s (x ∷ xs) ys run = cycles_append s xs ys (with_cycle s run x)
+
+-- the reports that the entries of a round add, told without its turn
+pub adds_round : (s : Session) (run : Run) (round : RoundSeen) (P : Report → Type 0) → Adds (with_calls round run) (before_turn s run round) P → Adds (before_turn s run round) (with_cycles s (late_of run round) (before_turn s run round)) P
+    → Adds (with_calls round run) (with_cycles s round.entries (with_calls round run)) P
+adds_round s run round P early late =
+    let called : Run = with_calls round run in
+    let before : Run = before_turn s run round in
+    subst (λ (r : Run). Adds called r P) (sym (cycles_append s (early_of run round) (late_of run round) called) ∙ ap (λ es. with_cycles s es called) (take-append-drop (early_count run round) round.entries))
+    (adds_both P called before (with_cycles s (late_of run round) before) early late)
+
+-- the report that an entry adds, and those of the entries after it
+pub adds_more : (s : Session) (i : ℕ) (P : SlotReport → Type 0) (run : Run) (e : EntrySeen) (es : List EntrySeen) → P (slot_told (with_cycle s run e) i) → Adds (with_cycle s run e) (with_cycles s es (with_cycle s run e)) (λ r. P (report_at r.slots i))
+    → Adds run (with_cycles s (e ∷ es) run) (λ r. P (report_at r.slots i))
+adds_more s i P run e es now rest =
+    let added = adds_one s run e in
+    let at : slot_told (with_cycle s run e) i ≡ report_at added.report.slots i = ap (λ (l : List Report). report_at (last_report l).slots i) added.whole ∙ ap (λ (r : Report). report_at r.slots i) (last_more run.reports added.report) in
+    record {
+      news = added.report ∷ rest.news;
+      whole = rest.whole ∙ ap (λ l. l ++ rest.news) added.whole ∙ append_assoc run.reports (added.report ∷ []) rest.news;
+      each = (subst P at now, rest.each);
+    }
+
+module _ (s : Session) (track i : ℕ) (item : FastTrack) (low : i < slots) (is : item.track ≡ track) (before : SlotReport) (most n high : ℕ) where
+  pub entries_found : (es : List EntrySeen) (run : Run) → FoundNow s track i item before n run → AllUse n high es → AllShown i es → AllOpen s track es run → shown_looks (slot_told run i) + heard_in i es ≤ most
+      → Adds run (with_cycles s es run) (λ r. FoundFor before most (report_at r.slots i) item)
+  entries_found [] run f uses shows opens few = adds_none (λ r. FoundFor before most (report_at r.slots i) item) run
+  entries_found (e ∷ es) run f uses shows opens few =
       let next = with_cycle s run e in
       let now = found_next s track i item low is before n run e f uses.0 shows.0 in
-      let rest = entries_found es next now uses.2 shows.1 opens.1 in
-      let added = adds_one s run e in
-      let slot : slot_told next i ≡ report_at added.report.slots i = ap (λ (l : List Report). report_at (last_report l).slots i) added.whole ∙ ap (λ (r : Report). report_at r.slots i) (last_more run.reports added.report) in
+      let counts = found_told s track i item low is before n run e f uses.0 shows.0 in
+      let fulls = ap (λ (r : SlotReport). r.fulls) counts in
+      let partials = ap (λ (r : SlotReport). r.partials) counts in
+      let one = heard_one (cycle_frames s) (entry_slot e.entry i).seen in
+      let more : shown_looks (slot_told next i) + heard_in i es ≤ most = omega (arith, fulls, partials, one, few) in
       let told = now.told in
-      let good : FoundFor before (slot_told next i) item = record { since = now.since; unshut = told.shut ∙ ap (λ (o : Option (ℕ × ℕ)). is_some o) opens.0 } in
-      record {
-        news = added.report ∷ rest.news;
-        whole = rest.whole ∙ ap (λ l. l ++ rest.news) added.whole ∙ append_assoc run.reports (added.report ∷ []) rest.news;
-        each = (subst (λ (r : SlotReport). FoundFor before r item) slot good, rest.each);
-      }
+      adds_more s i (λ r. FoundFor before most r item) run e es (record { since = now.since; unshut = told.shut ∙ ap (λ (o : Option (ℕ × ℕ)). is_some o) opens.0; few = omega (arith, more) }) (entries_found es next now uses.2 shows.1 opens.1 more)
 
 -- ## The server stays open
 
@@ -286,10 +313,10 @@ found_first s run track i item before n long u draft there last told since = rec
   since = since;
 }
 
--- The report that the turn of a round finds goes on from the one before the round, and says that the server is open
+-- The report that the turn of a round finds goes on from the one before the round, says that the server is open, and counts no more looks that showed frames than the last report of the round
 pub found_pushed : (s : Session) (marks : Marks) (run : Run) (round : RoundSeen) (track i : ℕ) (item : FastTrack) (m : ℕ) → LegalRound false s marks run round → FlowsIn s run round track i item → LastCarries run i → IsTold run track i item
     → HasItem i item run.normal.draft → length run.reports ≤ m → m ≤ length (with_cycles s round.entries (with_calls round run)).reports
-    → FoundFor (slot_told run i) (report_at (report_of (with_cycles s round.entries (with_calls round run)).reports m).slots i) item
+    → FoundFor (slot_told run i) (shown_looks (slot_told (after_round s run round) i)) (report_at (report_of (with_cycles s round.entries (with_calls round run)).reports m).slots i) item
 found_pushed s marks run round track i item m legal f last told draft low high =
     let o = over s run round track f.there in
     let parts = fast_parts s marks run round legal f.fast in
@@ -300,6 +327,7 @@ found_pushed s marks run round track i item m legal f last told draft low high =
     let n : ℕ = length run.states in
     let top : ℕ = length turn.states in
     let base : SlotReport = slot_told run i in
+    let most : ℕ = shown_looks (slot_told after i) in
     let first = early_states s run round in
     let final = late_states s run round in
     let long : length called.states ≡ n = ap length (calls_states round run) in
@@ -311,9 +339,12 @@ found_pushed s marks run round track i item m legal f last told draft low high =
     let since1 : Since base (slot_told called i) item =
     subst (λ (r : SlotReport). Since base r item) (sym slot1) (record { generation = told.generation; heard = omega arith; silent = omega arith; consumed = omega arith }) in
     let told1 : IsTold called track i item = told_same run called track i item c1 (known_quiet (told_at run track).stream (told_at called track).stream o.calls) told in
-    let good1 : FoundFor base (slot_told called i) item = record {
+    let counted = ((reported s marks run round track i item legal f).counted last).heard in
+    let same = ap shown_looks slot1 in
+    let good1 : FoundFor base most (slot_told called i) item = record {
       since = since1;
       unshut = told1.shut ∙ ap (λ (p : Option (ℕ × ℕ)). is_some p) (quiet_kept (told_at run track).stream (told_at called track).stream o.calls f.is_open.unshut);
+      few = omega (arith, counted, same);
     } in
     let start : FoundNow s track i item base n called = found_first s called track i item base n long u draft' o.first last1 told1 since1 in
     let fl = flowed s marks run round track i item legal f in
@@ -322,6 +353,7 @@ found_pushed s marks run round track i item m legal f last told draft low high =
     let both : AllUse n top (early_of run round ++ late_of run round) = use-append n top (early_of run round) (late_of run round) early uses.late in
     let shows : AllShown i (early_of run round ++ late_of run round) = subst (AllShown i) (sym cut) fl.shown in
     let opens : AllOpen s track (early_of run round ++ late_of run round) called = opens_of s marks run round track i item base legal f shows start in
-    let adds = entries_found s track i item f.slot f.item_is base n top (early_of run round ++ late_of run round) called start both shows opens in
-    let adds' : Adds called (with_cycles s round.entries called) (λ r. FoundFor base (report_at r.slots i) item) = subst (λ es. Adds called (with_cycles s es called) (λ r. FoundFor base (report_at r.slots i) item)) cut adds in
-    since_number called (with_cycles s round.entries called) (λ r. FoundFor base (report_at r.slots i) item) m adds' good1 (let a = ap length c1.reports in omega (arith, a, low)) high
+    let few : shown_looks (slot_told called i) + heard_in i (early_of run round ++ late_of run round) ≤ most = (let all = ap (heard_in i) cut in omega (arith, counted, same, all)) in
+    let adds = entries_found s track i item f.slot f.item_is base most n top (early_of run round ++ late_of run round) called start both shows opens few in
+    let adds' : Adds called (with_cycles s round.entries called) (λ r. FoundFor base most (report_at r.slots i) item) = subst (λ es. Adds called (with_cycles s es called) (λ r. FoundFor base most (report_at r.slots i) item)) cut adds in
+    since_number called (with_cycles s round.entries called) (λ r. FoundFor base most (report_at r.slots i) item) m adds' good1 (let a = ap length c1.reports in omega (arith, a, low)) high

@@ -178,7 +178,6 @@ pub mod StartDone
 pub mod StartFirst
 pub mod RetriesGone
 pub mod HeardFresh
-pub mod FoundCounts
 pub mod LentHears
 pub mod StatesHold
 pub mod PipeKept
