@@ -1,14 +1,14 @@
 -- The round in which a lent track leaves: it hears that its stream is open, all that its client is answered is fair, and it is on its course after it. What isn't told by the history of this round is told by that of the next one.
 use Rattle.std.proofs.Common.{◌≡◌, inl, ℕ, ◌≤◌, ◌<◌, if◌then◌else◌, is_some, Bool, true, false, true≢false, All, Some, length, refl, sym, ap, ◌∙◌, subst, arith}
-use Rattle.af_enough_law.proofs.Common.{FastState, FastTrack, Learnt, LegalRound, Lent, Marks, NormalKept, Returning, RoundSeen, Run, Session, Setting, SlotReport, TrackKept, after_round, carries, cycle_frames, ends_part, heard, is_home, is_lent, is_over, is_returning, learnt, load_of, met_after, number_of, plays, report_at, report_of, setup_of, slot_number, slot_of, slot_reported, state_of, takes_part, told_at, track_at, track_count, turn_after, turn_len, with_calls, with_cycles}
+use Rattle.af_enough_law.proofs.Common.{FastState, FastTrack, LegalRound, Lent, Marks, NormalKept, Returning, RoundSeen, Run, Session, Setting, TrackKept, after_round, carries, cycle_frames, ends_part, heard, is_home, is_lent, is_over, is_returning, learnt, met_after, number_of, plays, setup_of, slot_number, slot_of, slot_reported, state_of, takes_part, told_at, track_at, track_count, turn_after, turn_len}
 use Rattle.af_enough_law.proofs.Basics.{not_over}
 use Rattle.af_enough_law.proofs.Carried.{SessionCarried}
 use Rattle.af_enough_law.proofs.Drafts.{next_holder, holder_turned}
 use Rattle.af_enough_law.proofs.Ends.{IsInOrder, silent}
 use Rattle.af_enough_law.proofs.NormalRounds.{TurnMade}
 use Rattle.af_enough_law.proofs.CommandsGo.{OpenTurn}
-use Rattle.af_enough_law.proofs.EntryCounts.{found_within}
-use Rattle.af_enough_law.proofs.Following.{greeted_in, greeted_alike}
+use Rattle.af_enough_law.proofs.FoundReports.{found_reported}
+use Rattle.af_enough_law.proofs.Following.{greeted_in}
 use Rattle.af_enough_law.proofs.Foreseen.{Foreseen, KeepsTo, keeps_to, part_seen}
 use Rattle.af_enough_law.proofs.Generations.{greeted_lent, greeted_same}
 use Rattle.af_enough_law.proofs.HomeRounds.{keeps_of}
@@ -149,16 +149,8 @@ module _ (s : Session) (marks : Marks) (scales : All (λ (x : Setting). x.scale 
   pub open_by : Foreseen (told_at after i).stream → FoundOpen s run round i slot item
   open_by seen = found_open s marks run round i slot item legal flowing out_pushed (turn_leaves s marks run round t i low_run there runs away (ap is_some slot_turned)) seen
 
-  number_g : slot_number g ≡ slot
-  number_g = ap number_of ((greeted_alike t.turn.ack run.normal.last (track_at run.normal.tracks i)).slot ∙ l.slot_is)
-
   report_open : Foreseen (told_at after i).stream → SaysOpen (slot_reported (learnt t.by.outside) g) item
-  report_open seen =
-      let within = found_within s run round marks false t.turn legal c.stands.stored c.reports t.is runs c.stands.logged in
-      let m : ℕ = load_of (with_calls round run) t.turn in
-      subst (λ (r : SlotReport). SaysOpen r item)
-      (ap (λ (n : ℕ). report_at (report_of (with_cycles s round.entries (with_calls round run)).reports m).slots n) (sym number_g) ∙ ap (λ (k : Learnt). slot_reported k g) (sym t.sees))
-      ((open_by seen).found m within.0 within.1)
+  report_open seen = found_reported s marks run round legal c.stands c.reports t runs i slot l.slot_is (λ r. SaysOpen r item) (open_by seen).found
 
   same_generation : item.generation ≡ g.generation
   same_generation = ap (λ (x : FastTrack). x.generation) l.item_is ∙ sym (greeted_same t.turn.ack run.normal.last (track_at run.normal.tracks i)).generation

@@ -1,13 +1,13 @@
 -- What is carried of a track whose proxy is lent is kept by a round that leaves it lent.
-use Rattle.std.proofs.Common.{◌≡◌, ℕ, ◌≤◌, ◌<◌, ◌&&◌, not, is_some, Bool, true, false, true≢false, All, length, length-append, refl, sym, ap, ◌∙◌, subst, arith}
-use Rattle.af_enough_law.proofs.Common.{Counts, FastTrack, Learnt, LegalRound, Lent, Life, Marks, NormalKept, RoundSeen, Run, Session, Setting, SlotReport, TrackKept, after_round, client_list, counts_in, ends_part, observer_holds, is_home, learnt, load_of, met_after, number_of, or_right, plays, report_at, report_of, server_list, setup_of, slot_reported, takes_part, told_at, track_at, track_count, with_calls, with_cycles}
+use Rattle.std.proofs.Common.{◌≡◌, ℕ, ◌≤◌, ◌<◌, ◌&&◌, not, is_some, Bool, true, false, true≢false, All, length, length-append, refl, sym, ap, ◌∙◌, arith}
+use Rattle.af_enough_law.proofs.Common.{Counts, FastTrack, LegalRound, Lent, Life, Marks, NormalKept, RoundSeen, Run, Session, Setting, TrackKept, after_round, client_list, counts_in, ends_part, observer_holds, is_home, learnt, met_after, or_right, plays, server_list, setup_of, slot_reported, takes_part, told_at, track_at, track_count}
 use Rattle.af_enough_law.proofs.Basics.{state_there}
 use Rattle.af_enough_law.proofs.Carried.{SessionCarried}
 use Rattle.af_enough_law.proofs.FastWords.{FlowsIn, Flowed, Reported, slot_told, HasItem}
 use Rattle.af_enough_law.proofs.Items.{item_of}
 use Rattle.af_enough_law.proofs.NormalRounds.{TurnMade}
 use Rattle.af_enough_law.proofs.CommandsGo.{OpenTurn}
-use Rattle.af_enough_law.proofs.EntryCounts.{found_within, round_high}
+use Rattle.af_enough_law.proofs.EntryCounts.{round_high}
 use Rattle.af_enough_law.proofs.Fair.{calm_drops}
 use Rattle.af_enough_law.proofs.FastFound.{FoundFor, found_pushed, shown_looks}
 use Rattle.af_enough_law.proofs.FastKnows.{knows_released}
@@ -15,6 +15,7 @@ use Rattle.af_enough_law.proofs.FastPolls.{round_states, turn_more}
 use Rattle.af_enough_law.proofs.FastReports.{reported}
 use Rattle.af_enough_law.proofs.FastTakes.{flowed}
 use Rattle.af_enough_law.proofs.Flushless.{unflushed_none}
+use Rattle.af_enough_law.proofs.FoundReports.{found_reported}
 use Rattle.af_enough_law.proofs.Following.{greeted_in, greeted_alike}
 use Rattle.af_enough_law.proofs.Foreseen.{KeepsTo, keeps_to}
 use Rattle.af_enough_law.proofs.Generations.{greeted_lent, greeted_same}
@@ -110,13 +111,7 @@ module _ (s : Session) (marks : Marks) (scales : All (λ (x : Setting). x.scale 
 
   -- the report that the turn finds goes on, and says that its server is open
   pub found : FoundFor (slot_told run slot) (shown_looks (slot_told (after_round s run round) slot)) (slot_reported (learnt t.by.outside) g) item
-  found =
-      let within = found_within s run round marks false t.turn legal c.stands.stored c.reports t.is goes c.stands.logged in
-      let m : ℕ = load_of (with_calls round run) t.turn in
-      let f = found_pushed s marks run round i slot item m legal flows l.used l.told draft_now within.0 within.1 in
-      let number = ap number_of ((greeted_alike t.turn.ack run.normal.last (track_at run.normal.tracks i)).slot ∙ l.slot_is) in
-      subst (λ (r : SlotReport). FoundFor (slot_told run slot) (shown_looks (slot_told after slot)) r item)
-      (ap (λ (n : ℕ). report_at (report_of (with_cycles s round.entries (with_calls round run)).reports m).slots n) (sym number) ∙ ap (λ (k : Learnt). slot_reported k g) (sym t.sees)) f
+  found = found_reported s marks run round legal c.stands c.reports t goes i slot l.slot_is (λ r. FoundFor (slot_told run slot) (shown_looks (slot_told after slot)) r item) (λ m low high. found_pushed s marks run round i slot item m legal flows l.used l.told draft_now low high)
 
   -- the turn doesn't hear that the stream is shut
   pub lent_open : OpenTurn s marks run round i t

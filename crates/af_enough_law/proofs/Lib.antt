@@ -127,6 +127,7 @@ pub mod AwayKeeps
 pub mod SlotDrafts
 pub mod SlotReports
 pub mod RipeRounds
+pub mod FoundReports
 pub mod LeftFound
 pub mod Lookahead
 pub mod TurnLives

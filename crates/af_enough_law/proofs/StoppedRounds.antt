@@ -1,6 +1,6 @@
 -- A round of a stopped track: its turn doesn't hear that its stream is shut, wherever its proxy is, and leaves the proxy in such a place. What isn't told by the history of this round is told by that of the next one.
 use Rattle.std.proofs.Common.{◌≡◌, ◌⊎◌, inl, inr, ℕ, ◌≤◌, ◌<◌, ◌==◌, is_some, Bool, true, false, true≢false, All, Some, ◌++◌, length, length-append, refl, sym, ap, ◌∙◌, subst, arith}
-use Rattle.af_enough_law.proofs.Common.{FastState, FastTrack, Home, Learnt, LegalRound, Marks, NormalKept, Returning, RoundSeen, Run, Session, Setting, SlotReport, TrackKept, after_round, carries, cycle_frames, ends_part, heard, is_home, is_returning, learnt, load_of, met_after, number_of, plays, report_at, report_of, setup_of, slot_number, slot_reported, slots, state_beyond, state_more, state_of, takes_part, told_at, track_at, track_count, turn_after, turn_len, with_calls, with_cycles}
+use Rattle.af_enough_law.proofs.Common.{FastState, FastTrack, Home, LegalRound, Marks, NormalKept, Returning, RoundSeen, Run, Session, Setting, SlotReport, TrackKept, after_round, carries, cycle_frames, ends_part, heard, is_home, is_returning, learnt, met_after, number_of, plays, setup_of, slot_reported, slots, state_beyond, state_more, state_of, takes_part, told_at, track_at, track_count, turn_after, turn_len}
 use Rattle.af_enough_law.proofs.Basics.{not_over, some_is, stays_home}
 use Rattle.af_enough_law.proofs.Acks.{KnowsAcked, turn_sees_ack}
 use Rattle.af_enough_law.proofs.Carried.{SessionCarried}
@@ -11,9 +11,9 @@ use Rattle.af_enough_law.proofs.NormalRounds.{TurnMade}
 use Rattle.af_enough_law.proofs.CommandsGo.{OpenTurn}
 use Rattle.af_enough_law.proofs.Commanding.{le_cases}
 use Rattle.af_enough_law.proofs.EndRounds.{order_round}
-use Rattle.af_enough_law.proofs.EntryCounts.{found_within}
+use Rattle.af_enough_law.proofs.FoundReports.{found_reported}
 use Rattle.af_enough_law.proofs.FastPolls.{round_states, turn_more}
-use Rattle.af_enough_law.proofs.Following.{greeted_in, greeted_alike}
+use Rattle.af_enough_law.proofs.Following.{greeted_in}
 use Rattle.af_enough_law.proofs.Foreseen.{Foreseen, KeepsTo, keeps_to, part_seen, seen_earlier}
 use Rattle.af_enough_law.proofs.Generations.{greeted_same, attached_away}
 use Rattle.af_enough_law.proofs.StatesHold.{beyond_draft}
@@ -73,9 +73,6 @@ module _ (s : Session) (marks : Marks) (scales : All (λ (x : Setting). x.scale 
   -- the track's slot stays
   pub stopped_slot : (track_at after.normal.tracks i).slot ≡ Some slot
   stopped_slot = ap (λ (m : NormalKept). (track_at m.tracks i).slot) t.after ∙ slot_turned
-
-  number_g : slot_number g ≡ slot
-  number_g = ap number_of ((greeted_alike t.turn.ack run.normal.last (track_at run.normal.tracks i)).slot ∙ slot_is)
 
   made : PushMade run.normal after.normal t.turn.push
   made = push_of s marks scales long run round legal c.stands
@@ -142,11 +139,7 @@ module _ (s : Session) (marks : Marks) (scales : All (λ (x : Setting). x.scale 
       kept = slot_untouched s marks run round i slot legal c.stands.going c.states some_slot low_slot some all_after all_before
 
       report : slot_reported (learnt t.by.outside) g ≡ slot_told run slot
-      report =
-          let within = found_within s run round marks false t.turn legal c.stands.stored c.reports t.is runs c.stands.logged in
-          let m : ℕ = load_of (with_calls round run) t.turn in
-          ap (λ (k : Learnt). slot_reported k g) t.sees
-          ∙ ap (λ (j : ℕ). report_at (report_of (with_cycles s round.entries (with_calls round run)).reports m).slots j) number_g ∙ kept.found m within.0 within.1
+      report = found_reported s marks run round legal c.stands c.reports t runs i slot slot_is (λ r. r ≡ slot_told run slot) kept.found
 
       waits_open : OpenTurn s marks run round i t
       waits_open = record {
@@ -215,12 +208,7 @@ module _ (s : Session) (marks : Marks) (scales : All (λ (x : Setting). x.scale 
       open_by seen = found_open s marks run round i slot item legal (flowing seen) pushed_out (turn_leaves s marks run round t i low there runs away (ap is_some slot_turned)) seen
 
       report_open : Foreseen (told_at after i).stream → SaysOpen (slot_reported (learnt t.by.outside) g) item
-      report_open seen =
-          let within = found_within s run round marks false t.turn legal c.stands.stored c.reports t.is runs c.stands.logged in
-          let m : ℕ = load_of (with_calls round run) t.turn in
-          subst (λ (r : SlotReport). SaysOpen r item)
-          (ap (λ (j : ℕ). report_at (report_of (with_cycles s round.entries (with_calls round run)).reports m).slots j) (sym number_g) ∙ ap (λ (k : Learnt). slot_reported k g) (sym t.sees))
-          ((open_by seen).found m within.0 within.1)
+      report_open seen = found_reported s marks run round legal c.stands c.reports t runs i slot slot_is (λ r. SaysOpen r item) (open_by seen).found
 
       unpushed_open : OpenTurn s marks run round i t
       unpushed_open = record { low = low; named = named; there = there; lawful = lawful; runs = runs; unshut = λ alive. by alive (heard (learnt t.by.outside) i g).known.shut refl }
