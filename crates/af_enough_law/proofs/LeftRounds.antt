@@ -4,12 +4,12 @@ use Rattle.af_enough_law.proofs.Common.{FastState, FastTrack, LegalRound, Lent, 
 use Rattle.af_enough_law.proofs.Basics.{not_over}
 use Rattle.af_enough_law.proofs.Carried.{SessionCarried}
 use Rattle.af_enough_law.proofs.Drafts.{next_holder, holder_turned}
-use Rattle.af_enough_law.proofs.Ends.{IsInOrder, silent}
+use Rattle.af_enough_law.proofs.Ends.{IsInOrder}
 use Rattle.af_enough_law.proofs.NormalRounds.{TurnMade}
 use Rattle.af_enough_law.proofs.CommandsGo.{OpenTurn}
 use Rattle.af_enough_law.proofs.FoundReports.{found_reported}
 use Rattle.af_enough_law.proofs.Following.{greeted_in}
-use Rattle.af_enough_law.proofs.Foreseen.{Foreseen, KeepsTo, keeps_to, part_seen}
+use Rattle.af_enough_law.proofs.Foreseen.{Foreseen, KeepsTo, keeps_to}
 use Rattle.af_enough_law.proofs.Generations.{greeted_lent, greeted_same}
 use Rattle.af_enough_law.proofs.HomeRounds.{keeps_of}
 use Rattle.af_enough_law.proofs.StatesHold.{beyond_draft}
@@ -17,7 +17,7 @@ use Rattle.af_enough_law.proofs.LeftEntries.{IsOut, SaysOpen}
 use Rattle.af_enough_law.proofs.LeftFound.{Flowing, FoundOpen, found_open}
 use Rattle.af_enough_law.proofs.LentRounds.{LentCarried, heard_away, heard_opened, draft_item}
 use Rattle.af_enough_law.proofs.LentTurns.{turn_leaves}
-use Rattle.af_enough_law.proofs.Lookahead.{Coming, missed, greeted_coming, home_then, seen_before, ended_then}
+use Rattle.af_enough_law.proofs.Lookahead.{ended_seen as ended_by, Coming, missed}
 use Rattle.af_enough_law.proofs.Orders.{lent_carried}
 use Rattle.af_enough_law.proofs.SessionRounds.{turn_of, turn_runs, session_carried}
 use Rattle.af_enough_law.proofs.Slots.{slot_stays}
@@ -132,15 +132,7 @@ module _ (s : Session) (marks : Marks) (scales : All (λ (x : Setting). x.scale 
 
   -- what was done to the stream of a track whose life has ended is told by this round's history or the next one's
   pub ended_seen : (track_at after.normal.tracks i).life.ended ≡ true → Foreseen (told_at after i).stream
-  ended_seen ended = by (takes_part s (met_after s run round) i) refl
-    where
-      by : (b : Bool) → takes_part s (met_after s run round) i ≡ b → Foreseen (told_at after i).stream
-      by true part = part_seen false s marks run round t i low_run named legal keeps part
-      by false none =
-          let home = greeted_coming s marks scales long after next legal_next session i named slot (coming none) returning (ap number_of slot_then) in
-          let still = ended_then s marks scales long after next legal_next session i named ended in
-          let there = home_then s marks scales long after next legal_next session i named home (silent (track_at (after_round s after next).normal.tracks i).life still) in
-          seen_before s marks scales long after next legal_next session i named keeps_then there
+  ended_seen ended = ended_by s marks scales long run round next t i slot low_run named legal legal_next session keeps returning (ap number_of slot_then) coming ended
 
   pub away : is_home g.holder ≡ false
   away = ap is_home (greeted_lent t.turn.ack run.normal.last (track_at run.normal.tracks i) l.lent)

@@ -14,7 +14,7 @@ use Rattle.af_enough_law.proofs.EndRounds.{order_round}
 use Rattle.af_enough_law.proofs.FoundReports.{found_reported}
 use Rattle.af_enough_law.proofs.FastPolls.{round_states, turn_more}
 use Rattle.af_enough_law.proofs.Following.{greeted_in}
-use Rattle.af_enough_law.proofs.Foreseen.{Foreseen, KeepsTo, keeps_to, part_seen, seen_earlier}
+use Rattle.af_enough_law.proofs.Foreseen.{Foreseen, KeepsTo, part_seen, seen_earlier}
 use Rattle.af_enough_law.proofs.Generations.{greeted_same, attached_away}
 use Rattle.af_enough_law.proofs.StatesHold.{beyond_draft}
 use Rattle.af_enough_law.proofs.LeftEntries.{IsOut, SaysOpen}
@@ -22,7 +22,7 @@ use Rattle.af_enough_law.proofs.LeftFound.{Flowing, FoundOpen, found_open}
 use Rattle.af_enough_law.proofs.LeftRounds.{draft_out}
 use Rattle.af_enough_law.proofs.LentRounds.{heard_away}
 use Rattle.af_enough_law.proofs.LentTurns.{turn_leaves}
-use Rattle.af_enough_law.proofs.Lookahead.{Coming, missed, greeted_coming, home_then, seen_before, ended_then, round_later}
+use Rattle.af_enough_law.proofs.Lookahead.{ended_seen, Coming, missed, greeted_coming, home_then, round_later}
 use Rattle.af_enough_law.proofs.SessionRounds.{turn_of, turn_runs, push_of, session_carried}
 use Rattle.af_enough_law.proofs.Slots.{course_opened, slot_stays}
 use Rattle.af_enough_law.proofs.StoppedPlaces.{Place, at_home, comes, waits, unpushed, home_is, greeted_or, greeted_stays}
@@ -163,9 +163,6 @@ module _ (s : Session) (marks : Marks) (scales : All (λ (x : Setting). x.scale 
       keeps : KeepsTo run i
       keeps = record { few = z.few; spelled = z.commands.spelled; pokeless = z.commands.pokeless; flushless = z.commands.flushless }
 
-      keeps_then : KeepsTo after i
-      keeps_then = keeps_to false s marks run round t i low named legal keeps
-
       there_then : i < length after.normal.tracks
       there_then = let a = ap (λ (m : NormalKept). length m.tracks) t.after in let b = turn_len (setup_of s) (learnt t.by.outside) run.normal t.turn in let d = there in omega (arith, a, b, d)
 
@@ -189,20 +186,7 @@ module _ (s : Session) (marks : Marks) (scales : All (λ (x : Setting). x.scale 
       }
 
       missing : takes_part s (met_after s run round) i ≡ false → Coming after slot
-      missing none = record { acked = (missed_by none).acked; free = ap (λ (x : FastState). carries x slot) (made.done free).1 ∙ out_then.free }
-        where
-          missed_by : takes_part s (met_after s run round) i ≡ false → Coming after slot
-          missed_by none = missed s marks scales long run round legal c i slot item last low_slot item_is some (first some) out_then.free (ends_part s (met_after s run round) i ∙ none)
-
-      ended_seen : (track_at after.normal.tracks i).life.ended ≡ true → Foreseen (told_at after i).stream
-      ended_seen ended = by (takes_part s (met_after s run round) i) refl
-        where
-          by : (b : Bool) → takes_part s (met_after s run round) i ≡ b → Foreseen (told_at after i).stream
-          by true part = part_seen false s marks run round t i low named legal keeps part
-          by false none =
-              let home = greeted_coming s marks scales long after next legal_next session i named slot (missing none) (ap is_returning back_then) (ap number_of stopped_slot) in
-              let still = ended_then s marks scales long after next legal_next session i named ended in
-              seen_before s marks scales long after next legal_next session i named keeps_then (home_then s marks scales long after next legal_next session i named home (silent (track_at (after_round s after next).normal.tracks i).life still))
+      missing none = missed s marks scales long run round legal c i slot item last low_slot item_is some (first some) out_then.free (ends_part s (met_after s run round) i ∙ none)
 
       open_by : Foreseen (told_at after i).stream → FoundOpen s run round i slot item
       open_by seen = found_open s marks run round i slot item legal (flowing seen) pushed_out (turn_leaves s marks run round t i low there runs away (ap is_some slot_turned)) seen
@@ -220,7 +204,7 @@ module _ (s : Session) (marks : Marks) (scales : All (λ (x : Setting). x.scale 
           by alive false is = is
           by alive true is =
               let ended = ap (λ (m : NormalKept). (track_at m.tracks i).life.ended) t.after ∙ shut_turned (setup_of s) (learnt t.by.outside) run.normal t.turn i there runs alive is in
-              absurd (true≢false (sym is ∙ heard_open (ended_seen ended)))
+              absurd (true≢false (sym is ∙ heard_open (ended_seen s marks scales long run round next t i slot low named legal legal_next session keeps (ap is_returning back_then) (ap number_of stopped_slot) missing ended)))
 
       unpushed_then : Place s after i slot item
       unpushed_then = by (takes_part s (met_after s run round) i) refl
