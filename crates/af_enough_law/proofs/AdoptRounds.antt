@@ -1,16 +1,17 @@
 -- The round in which the fast mixer comes to have a proxy at the latest: the last state pushed before it plays the track, which stays lent. The proxy takes part in its meeting, and from there on it is carried as one that flows.
 use Rattle.std.proofs.Common.{◌≡◌, inl, ℕ, ◌≤◌, ◌<◌, ◌==◌, is_some, if◌then◌else◌, Bool, true, false, All, Some, [], length, refl, sym, ap, ◌∙◌, subst, arith, eqb-true}
-use Rattle.af_enough_law.proofs.Common.{FastState, FastTrack, Heard, Learnt, LegalRound, Lent, Marks, NormalKept, RoundSeen, Run, Session, Setting, SlotReport, TrackKept, after_round, after_turn, before_turn, client_list, counts_in, ends_part, grown, heard_at_home, heard_by, heard_elsewhere, heard_with, observer_holds, is_home, learnt, load_of, met_after, number_of, or_right, report_at, report_of, server_list, setup_of, slot_reported, state_of, takes_part, told_at, track_at, track_count, turn_after, with_calls, with_cycles}
+use Rattle.af_enough_law.proofs.Common.{FastState, FastTrack, Heard, LegalRound, Lent, Marks, NormalKept, RoundSeen, Run, Session, Setting, SlotReport, TrackKept, after_round, after_turn, before_turn, client_list, counts_in, ends_part, grown, heard_at_home, heard_by, heard_elsewhere, heard_with, observer_holds, is_home, learnt, met_after, number_of, or_right, server_list, setup_of, slot_reported, state_of, takes_part, told_at, track_at, track_count, turn_after}
 use Rattle.af_enough_law.proofs.Basics.{state_there}
 use Rattle.af_enough_law.proofs.Carried.{SessionCarried}
 use Rattle.af_enough_law.proofs.FastWords.{Plays, AllStates, slot_told}
 use Rattle.af_enough_law.proofs.NormalRounds.{TurnMade}
 use Rattle.af_enough_law.proofs.AwayKeeps.{StaysOpen, away_turn}
 use Rattle.af_enough_law.proofs.AwayRounds.{AwayTurn}
-use Rattle.af_enough_law.proofs.EntryCounts.{found_within, round_high}
+use Rattle.af_enough_law.proofs.EntryCounts.{round_high}
 use Rattle.af_enough_law.proofs.FastKnows.{knows_released}
 use Rattle.af_enough_law.proofs.FastReports.{plays_reported}
-use Rattle.af_enough_law.proofs.Following.{greeted_in, greeted_alike}
+use Rattle.af_enough_law.proofs.FoundReports.{found_reported}
+use Rattle.af_enough_law.proofs.Following.{greeted_in}
 use Rattle.af_enough_law.proofs.Foreseen.{Foreseen, part_seen}
 use Rattle.af_enough_law.proofs.Generations.{Attached, greeted_lent, greeted_same}
 use Rattle.af_enough_law.proofs.HomeRounds.{IsNamed}
@@ -158,11 +159,4 @@ module _ (s : Session) (marks : Marks) (scales : All (λ (x : Setting). x.scale 
 
         report : (slot_reported (learnt t.by.outside) g).generation ≡ g.generation → (slot_reported (learnt t.by.outside) g).shut ≡ false
         report e =
-            let within = found_within s run round marks false t.turn legal c.stands.stored c.reports t.is goes c.stands.logged in
-            let m : ℕ = load_of (with_calls round run) t.turn in
-            let number = ap number_of ((greeted_alike t.turn.ack run.normal.last (track_at run.normal.tracks i)).slot ∙ l.slot_is) in
-            let found : SaysOpenOf item (report_at (report_of (with_cycles s round.entries (with_calls round run)).reports m).slots slot) =
-            meets_open s marks run round i slot item legal meeting (λ k y above is. inl (plays_item slot item y (pushed_plays k y above is))) turn_adds adopted_seen m within.0 within.1 in
-            let here : report_at (report_of (with_cycles s round.entries (with_calls round run)).reports m).slots slot ≡ slot_reported (learnt t.by.outside) g =
-            ap (λ (n : ℕ). report_at (report_of (with_cycles s round.entries (with_calls round run)).reports m).slots n) (sym number) ∙ ap (λ (k : Learnt). slot_reported k g) (sym t.sees) in
-            subst (SaysOpenOf item) here found (e ∙ same.generation ∙ sym (ap (λ (x : FastTrack). x.generation) l.item_is))
+            found_reported s marks run round legal c.stands c.reports t goes i slot l.slot_is (SaysOpenOf item) (meets_open s marks run round i slot item legal meeting (λ k y above is. inl (plays_item slot item y (pushed_plays k y above is))) turn_adds adopted_seen) (e ∙ same.generation ∙ sym (ap (λ (x : FastTrack). x.generation) l.item_is))

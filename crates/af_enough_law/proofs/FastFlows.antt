@@ -1,6 +1,6 @@
 -- What a round takes of a track that its states carry in a slot.
 use Rattle.std.proofs.Common.{◌≡◌, ◌⊎◌, inl, inr, ℕ, ◌+◌, ◌≤◌, ◌<◌, true, Option, Some, None, List, [], ◌∷◌, ◌++◌, length, take, refl, sym, ap, ◌∙◌, subst, arith, append_assoc, append-nil}
-use Rattle.af_enough_law.proofs.Common.{BlockTold, ClientEvent, EntrySeen, FastState, FastTrack, LegalEntries, LegalEntry, Listed, LooksBy, Marks, Run, ServerEvent, Session, Shape, TrackTold, client_list, count_seen, cycle_events, cycle_frames, drops_none, entry_slot, front_of, listed, mixed_track, played, server_kept, server_list, shown_if, slot_playing, slot_of, slots, state_for, state_known, told_at, with_cycle, with_cycles, with_poll}
+use Rattle.af_enough_law.proofs.Common.{BlockTold, ClientEvent, EntrySeen, FastState, FastTrack, LegalEntries, LegalEntry, Listed, LooksBy, Marks, Run, ServerEvent, Session, Shape, TrackTold, client_list, count_seen, cycle_events, cycle_frames, drops_none, entry_slot, front_of, kept, listed, mixed_track, played, server_kept, server_list, shown_if, slot_playing, slot_of, slots, state_for, state_known, told_at, with_cycle, with_cycles, with_poll}
 use Rattle.af_base.specs.declared.event.ServerEvent.TheVariants as server
 use Rattle.af_enough_law.specs.Seen.{Stands, frames_put, frames_taken}
 use Rattle.af_enough_law.proofs.FastWords.{AllUse, AllStates, Plays, taken_in, asked_in, IsShown, AllShown}
@@ -110,6 +110,11 @@ took_more k asked known n i before now after e es taken reach shows rest =
     by (inr known_taken) r = inr (let a = rest.taken in omega (arith, a, taken, known_taken))
     by (inl all) (inr more) = inr more
 
+-- each of some entries plays the track in the slot, and leaves its server open
+abbrev pub AllAlong : Session → ℕ → ℕ → List EntrySeen → Run → Type 0
+AllAlong s track i [] run = Unit {0}
+AllAlong s track i (e ∷ es) run = ((told_at (with_cycle s run e) track).stream ≡ played (cycle_frames s) e i (told_at run track).stream) × ((kept (listed (told_at (with_cycle s run e) track).stream)).shut ≡ None) × AllAlong s track i es (with_cycle s run e)
+
 module _ (s : Session) (marks : Marks) (track i : ℕ) (item : FastTrack) (low : i < slots) (is : item.track ≡ track) (first after : Run) (states : AllStates first after (Plays i item)) (k : Shape) (cs : List ClientEvent) (all : List ServerEvent) (h : Setting k cs all) (n : ℕ) where
   -- the lists of the block lie in the history
   pub record Lies (b : BlockTold) : Type 0 where
@@ -140,19 +145,23 @@ module _ (s : Session) (marks : Marks) (track i : ℕ) (item : FastTrack) (low :
   -- what some entries take
   pub entries_take : (high : ℕ) (es : List EntrySeen) (run : Run) (more : List FastState) → after.states ≡ run.states ++ more → high ≤ length run.states → track < length run.tracks → AllUse (length first.states) high es → LegalEntries s marks run es
       → Lies (told_at (with_cycles s es run) track).stream → drops_none (server_list (told_at run track).stream) ≡ true → (server_kept k (server_list (told_at run track).stream)).shut ≡ None → Stands (server.Learn n) (server_list (told_at run track).stream)
-      → Took k (cycle_frames s) (frames_put (take n cs)) n i (server_list (told_at run track).stream) (server_list (told_at (with_cycles s es run) track).stream) es
+      → Took k (cycle_frames s) (frames_put (take n cs)) n i (server_list (told_at run track).stream) (server_list (told_at (with_cycles s es run) track).stream) es × AllAlong s track i es run
   entries_take high [] run more whole top there uses legal lies none unshut learnt =
-      record { none = none; unshut = unshut; taken = omega arith; reaches = inl (omega arith); shown = tt }
+      (record { none = none; unshut = unshut; taken = omega arith; reaches = inl (omega arith); shown = tt }, tt)
   entries_take high (e ∷ es) run more whole top there uses legal lies none unshut learnt =
       let next = with_cycle s run e in
       let there' : track < length next.tracks = (let a = cycle_long s run e in omega (arith, a, there)) in
       let below = uses.1 in
       let plays = plays_track s marks run e track i item low is there legal.0 (uses_of (Plays i item) first after run e.entry.state states more whole uses.0 (omega arith)) in
-      let look = entry_look run e plays (lies_before (told_at next track).stream (told_at (with_cycles s es next) track).stream (cycles_later s es next track there') lies) none unshut in
+      let lies' = lies_before (told_at next track).stream (told_at (with_cycles s es next) track).stream (cycles_later s es next track there') lies in
+      let look = entry_look run e plays lies' none unshut in
       let l = look.2 in
       let none' = ap drops_none look.1 ∙ l.none in
-      let unshut' = ap (λ x. (server_kept k x).shut) look.1 ∙ l.unshut in
+      let unshut' : (server_kept k (server_list (told_at next track).stream)).shut ≡ None = ap (λ x. (server_kept k x).shut) look.1 ∙ l.unshut in
       let rest = entries_take high es next more (whole ∙ ap (λ x. x ++ more) (sym (cycle_states s run e))) (let a = ap length (cycle_states s run e) in omega arith) there' uses.2 legal.1 lies none' unshut'
       (subst (Stands (server.Learn n)) (sym look.1) (stands-more (server.Learn n) (server_list (told_at run track).stream) look.0 learnt)) in
-      took_more k (cycle_frames s) (frames_put (take n cs)) n i (server_list (told_at run track).stream) (server_list (told_at next track).stream) (server_list (told_at (with_cycles s es next) track).stream) e es
-      (ap frames_taken look.1 ∙ l.taken) (l.reaches n learnt) l.shows rest
+      let open_now : (kept (listed (told_at next track).stream)).shut ≡ None = ap (λ (z : Shape). (server_kept z (server_list (told_at next track).stream)).shut) lies'.shape ∙ unshut' in (
+        took_more k (cycle_frames s) (frames_put (take n cs)) n i (server_list (told_at run track).stream) (server_list (told_at next track).stream) (server_list (told_at (with_cycles s es next) track).stream) e es
+            (ap frames_taken look.1 ∙ l.taken) (l.reaches n learnt) l.shows rest.0,
+        (plays.stream, open_now, rest.1),
+      )

@@ -1,20 +1,17 @@
 -- The report that a turn finds: it is told by the entries of the round without the state that the turn pushes, and goes on from the one before the round all the same.
-use Rattle.std.proofs.Common.{◌≡◌, ◌⊎◌, inl, inr, ℕ, ◌≤◌, ◌<◌, ◌||◌, ◌&&◌, if◌then◌else◌, unwrap_or, is_some, Bool, true, false, Option, Some, None, List, [], ◌∷◌, ◌++◌, length, length-append, refl, sym, ap, ◌∙◌, subst, arith, append_assoc, append-nil}
-use Rattle.af_enough_law.proofs.Common.{BlockTold, ClientEvent, CycleEntry, EntrySeen, FastState, FastTrack, HasBlockHistory, IsClientList, LegalEntries, LegalRound, Listed, Marks, NormalKept, Report, RoundSeen, Run, Seen, ServerEvent, Session, Shape, SlotReport, TrackTold, after_round, after_turn, before_turn, calls_states, carries, client_list, counted_look, cycle_events, cycle_frames, drops_none, early_count, early_of, ends_part, entry_slot, flushes_of, front_of, hand_list, initial, is_shown, is_tame, kept, known_of, known_some, last_report, last_used, last_used-push, late_of, listed, met_after, next_slot, no_slot, or_true, played, polled_other, polled_pushed, polled_waits, report_at, report_of, server_kept, server_list, slot_playing, slot_of, slot_report, slots, state_at, state_for, state_known, state_of, stream_of, take-append-drop, told_at, with_calls, with_cycle, with_cycles, with_looks, with_mix, with_poll}
+use Rattle.std.proofs.Common.{◌≡◌, ◌⊎◌, inl, inr, ℕ, ◌+◌, ◌≤◌, ◌<◌, ◌||◌, ◌&&◌, if◌then◌else◌, unwrap_or, is_some, Bool, true, false, Option, Some, None, List, [], ◌∷◌, ◌++◌, length, length-append, refl, sym, ap, ◌∙◌, subst, arith, append_assoc}
+use Rattle.af_enough_law.proofs.Common.{BlockTold, CycleEntry, EntrySeen, FastState, FastTrack, LegalRound, Listed, Marks, NormalKept, Report, RoundSeen, Run, Seen, Session, Shape, SlotReport, TrackTold, after_round, after_turn, before_turn, calls_states, carries, counted_look, cycle_events, cycle_frames, early_count, early_of, entry_slot, front_of, initial, is_shown, kept, known_of, known_some, last_report, last_used, last_used-push, late_of, listed, next_slot, no_slot, or_true, played, polled_other, polled_pushed, polled_waits, report_at, report_of, server_kept, server_list, slot_playing, slot_of, slot_report, slots, state_at, state_for, state_known, state_of, stream_of, take-append-drop, told_at, with_calls, with_cycle, with_cycles, with_looks, with_mix, with_poll}
 use Rattle.af_base.specs.declared.seen.Seen.TheVariants as seen
 use Rattle.af_runs.specs.Runs.{shows_slot}
-use Rattle.af_enough_law.proofs.FastWords.{AllUse, AllStates, Plays, slot_told, IsTold, LastCarries, IsShown, AllShown, Since, FlowsIn, HasItem}
-use Rattle.af_enough_law.proofs.FastFlows.{cycle_later, later_both, Later, entries_take, cycles_later, plays_track, Lies, lies_before, entry_look}
-use Rattle.af_enough_law.proofs.FastReports.{slot_counts, last_more, calls_same, slot_same, last_same, told_same, known_quiet}
+use Rattle.af_enough_law.proofs.FastWords.{AllUse, Plays, slot_told, IsTold, LastCarries, IsShown, AllShown, Since, FlowsIn, HasItem, heard_in}
+use Rattle.af_enough_law.proofs.FastFlows.{AllAlong, cycle_later}
+use Rattle.af_enough_law.proofs.FastReports.{heard_one, reported, slot_counts, last_more, calls_same, slot_same, last_same, told_same, known_quiet}
 use Rattle.af_enough_law.proofs.FastPolls.{parts_use, fast_parts, use-append, turn_more}
 use Rattle.af_enough_law.proofs.FastRounds.{Quiet, over}
-use Rattle.af_enough_law.proofs.FastTakes.{flowed, quiet_none, quiet_unshut}
-use Rattle.af_enough_law.proofs.FastSince.{Adds, known_more, since_number}
+use Rattle.af_enough_law.proofs.FastTakes.{flowed, flowed_on, quiet_unshut}
+use Rattle.af_enough_law.proofs.FastSince.{Adds, adds_both, adds_none, known_more, since_number}
 use Rattle.af_enough_law.proofs.FastSteps.{cycle_states, cycle_track, mixed_stream, played_server, slot_only}
 use Rattle.af_enough_law.proofs.FastMixes.{uses_of, early_states, late_states, Uses}
-use Rattle.af_enough_law.proofs.FastShows.{Setting, stands-more}
-use Rattle.af_enough_law.specs.Seen.{Stands}
-use Rattle.af_base.specs.declared.event.ServerEvent.TheVariants as server
 use Rattle.af_enough_law.proofs.Commanding.{le_cases}
 use Rattle.af_enough_law.proofs.RunTracks.{cycle_long}
 
@@ -118,10 +115,15 @@ abbrev pub AllOpen : Session → ℕ → List EntrySeen → Run → Type 0
 AllOpen s track [] run = Unit {0}
 AllOpen s track (e ∷ es) run = ((kept (listed (told_at (with_cycle s run e) track).stream)).shut ≡ None) × AllOpen s track es (with_cycle s run e)
 
--- what a report says that a turn finds: no count fell, and the server isn't shut
-pub record FoundFor (before now : SlotReport) (item : FastTrack) : Type 0 where
+-- the looks that showed frames, by a report
+abbrev pub shown_looks : SlotReport → ℕ
+shown_looks r = r.fulls + r.partials
+
+-- what a report says that a turn finds: no count fell, the server isn't shut, and no more looks showed frames than these
+pub record FoundFor (before : SlotReport) (most : ℕ) (now : SlotReport) (item : FastTrack) : Type 0 where
   pub since : Since before now item
   pub unshut : now.shut ≡ false
+  pub few : shown_looks now ≤ most
 
 pub record AddsOne (run later : Run) : Type 0 where
   pub report : Report
@@ -131,23 +133,45 @@ pub adds_one : (s : Session) (run : Run) (e : EntrySeen) → AddsOne run (with_c
 unfolding with_poll with_mix
 adds_one s run e = record { report = _; whole = refl }
 
-module _ (s : Session) (track i : ℕ) (item : FastTrack) (low : i < slots) (is : item.track ≡ track) (before : SlotReport) (n high : ℕ) where
-  pub entries_found : (es : List EntrySeen) (run : Run) → FoundNow s track i item before n run → AllUse n high es → AllShown i es → AllOpen s track es run
-      → Adds run (with_cycles s es run) (λ r. FoundFor before (report_at r.slots i) item)
-  entries_found [] run f uses shows opens = record { news = []; whole = sym (append-nil run.reports); each = tt }
-  entries_found (e ∷ es) run f uses shows opens =
+pub cycles_append : (s : Session) (xs ys : List EntrySeen) (run : Run) → with_cycles s (xs ++ ys) run ≡ with_cycles s ys (with_cycles s xs run)
+cycles_append s [] ys run = refl
+cycles_append s (x ∷ xs) ys run = cycles_append s xs ys (with_cycle s run x)
+
+-- the reports that the entries of a round add, told without its turn
+pub adds_round : (s : Session) (run : Run) (round : RoundSeen) (P : Report → Type 0) → Adds (with_calls round run) (before_turn s run round) P → Adds (before_turn s run round) (with_cycles s (late_of run round) (before_turn s run round)) P
+    → Adds (with_calls round run) (with_cycles s round.entries (with_calls round run)) P
+adds_round s run round P early late =
+    let called : Run = with_calls round run in
+    let before : Run = before_turn s run round in
+    subst (λ (r : Run). Adds called r P) (sym (cycles_append s (early_of run round) (late_of run round) called) ∙ ap (λ es. with_cycles s es called) (take-append-drop (early_count run round) round.entries))
+    (adds_both P called before (with_cycles s (late_of run round) before) early late)
+
+-- the report that an entry adds, and those of the entries after it
+pub adds_more : (s : Session) (i : ℕ) (P : SlotReport → Type 0) (run : Run) (e : EntrySeen) (es : List EntrySeen) → P (slot_told (with_cycle s run e) i) → Adds (with_cycle s run e) (with_cycles s es (with_cycle s run e)) (λ r. P (report_at r.slots i))
+    → Adds run (with_cycles s (e ∷ es) run) (λ r. P (report_at r.slots i))
+adds_more s i P run e es now rest =
+    let added = adds_one s run e in
+    let at : slot_told (with_cycle s run e) i ≡ report_at added.report.slots i = ap (λ (l : List Report). report_at (last_report l).slots i) added.whole ∙ ap (λ (r : Report). report_at r.slots i) (last_more run.reports added.report) in
+    record {
+      news = added.report ∷ rest.news;
+      whole = rest.whole ∙ ap (λ l. l ++ rest.news) added.whole ∙ append_assoc run.reports (added.report ∷ []) rest.news;
+      each = (subst P at now, rest.each);
+    }
+
+module _ (s : Session) (track i : ℕ) (item : FastTrack) (low : i < slots) (is : item.track ≡ track) (before : SlotReport) (most n high : ℕ) where
+  pub entries_found : (es : List EntrySeen) (run : Run) → FoundNow s track i item before n run → AllUse n high es → AllShown i es → AllOpen s track es run → shown_looks (slot_told run i) + heard_in i es ≤ most
+      → Adds run (with_cycles s es run) (λ r. FoundFor before most (report_at r.slots i) item)
+  entries_found [] run f uses shows opens few = adds_none (λ r. FoundFor before most (report_at r.slots i) item) run
+  entries_found (e ∷ es) run f uses shows opens few =
       let next = with_cycle s run e in
       let now = found_next s track i item low is before n run e f uses.0 shows.0 in
-      let rest = entries_found es next now uses.2 shows.1 opens.1 in
-      let added = adds_one s run e in
-      let slot : slot_told next i ≡ report_at added.report.slots i = ap (λ (l : List Report). report_at (last_report l).slots i) added.whole ∙ ap (λ (r : Report). report_at r.slots i) (last_more run.reports added.report) in
+      let counts = found_told s track i item low is before n run e f uses.0 shows.0 in
+      let fulls = ap (λ (r : SlotReport). r.fulls) counts in
+      let partials = ap (λ (r : SlotReport). r.partials) counts in
+      let one = heard_one (cycle_frames s) (entry_slot e.entry i).seen in
+      let more : shown_looks (slot_told next i) + heard_in i es ≤ most = omega (arith, fulls, partials, one, few) in
       let told = now.told in
-      let good : FoundFor before (slot_told next i) item = record { since = now.since; unshut = told.shut ∙ ap (λ (o : Option (ℕ × ℕ)). is_some o) opens.0 } in
-      record {
-        news = added.report ∷ rest.news;
-        whole = rest.whole ∙ ap (λ l. l ++ rest.news) added.whole ∙ append_assoc run.reports (added.report ∷ []) rest.news;
-        each = (subst (λ (r : SlotReport). FoundFor before r item) slot good, rest.each);
-      }
+      adds_more s i (λ r. FoundFor before most r item) run e es (record { since = now.since; unshut = told.shut ∙ ap (λ (o : Option (ℕ × ℕ)). is_some o) opens.0; few = omega (arith, more) }) (entries_found es next now uses.2 shows.1 opens.1 more)
 
 -- ## The server stays open
 
@@ -157,37 +181,21 @@ listed_played asked e i b c same =
     played_server asked e i b ∙ ap (λ (l : Listed). l.events ++ cycle_events asked l (entry_slot e.entry i) (front_of asked l (entry_slot e.entry i))) same ∙ sym (played_server asked e i c) in
     λ j. record { shape = (same j).shape; events = list j }
 
-module _ (s : Session) (marks : Marks) (track i : ℕ) (item : FastTrack) (low : i < slots) (is : item.track ≡ track) (first after : Run) (states : AllStates first after (Plays i item)) (k : Shape) (cs : List ClientEvent) (all : List ServerEvent) (h : Setting k cs all) (count : ℕ) (before : SlotReport) (n : ℕ) where
-  -- the entries told in one run, and legal in another one that has the same list of the server
-  pub entries_open : (high : ℕ) (es : List EntrySeen) (run : Run) (more : List FastState) → after.states ≡ run.states ++ more → high ≤ length run.states → track < length run.tracks → AllUse (length first.states) high es → LegalEntries s marks run es
-      → Lies s marks track i item low is first after states k cs all h count (told_at (with_cycles s es run) track).stream → drops_none (server_list (told_at run track).stream) ≡ true → (server_kept k (server_list (told_at run track).stream)).shut ≡ None
-      → (told : Run) → FoundNow s track i item before n told → AllUse n high es → AllShown i es → listed (told_at told track).stream ≡ listed (told_at run track).stream → AllOpen s track es told
-  entries_open high [] run more whole top there uses legal lies none unshut told f used shows same = tt
-  entries_open high (e ∷ es) run more whole top there uses legal lies none unshut told f used shows same =
-      let next = with_cycle s run e in
+module _ (s : Session) (track i : ℕ) (item : FastTrack) (low : i < slots) (is : item.track ≡ track) (before : SlotReport) (n high : ℕ) where
+  -- the entries told in one run, which play the track all along in another one that has the same list of the server
+  entries_open : (es : List EntrySeen) (run told : Run) → AllAlong s track i es run → FoundNow s track i item before n told → AllUse n high es → AllShown i es → listed (told_at told track).stream ≡ listed (told_at run track).stream → AllOpen s track es told
+  entries_open [] run told along f used shows same = tt
+  entries_open (e ∷ es) run told along f used shows same =
       let later : Run = with_cycle s told e in
-      let there' : track < length next.tracks = (let a = cycle_long s run e in omega (arith, a, there)) in
-      let below = uses.1 in
-      let shows_slot = plays_track s marks run e track i item low is there legal.0 (uses_of (Plays i item) first after run e.entry.state states more whole uses.0 (omega arith)) in
-      let lies' = lies_before s marks track i item low is first after states k cs all h count (told_at next track).stream (told_at (with_cycles s es next) track).stream (cycles_later s es next track there') lies in
-      let look = entry_look s marks track i item low is first after states k cs all h count run e shows_slot lies' none unshut in
-      let l = look.2 in
-      let none' = ap drops_none look.1 ∙ l.none in
-      let unshut' : (server_kept k (server_list (told_at next track).stream)).shut ≡ None = ap (λ y. (server_kept k y).shut) look.1 ∙ l.unshut in
       let c = counts_as s track i item low is before n told e f used.0 in
       let has = c.has in
       let track_is : (slot_of c.state i).track ≡ track = ap (λ (t : FastTrack). t.track) has.is ∙ is in
       let only = slot_only c.state e track i low has.carried track_is (λ j less carried one. has.only j less carried (one ∙ sym is)) (is_look (entry_slot e.entry i).seen shows.0) in
       let stream : (told_at later track).stream ≡ played (cycle_frames s) e i (told_at told track).stream =
       ap (λ (t : TrackTold). t.stream) (cycle_track s told e track f.there) ∙ mixed_stream s (state_for s (with_poll s e.entry.state told) e.entry.state) e track i (told_at told track) (ap (λ (y : FastState). slot_playing y e.entry track) c.is ∙ only) in
-      let same' : listed (told_at later track).stream ≡ listed (told_at next track).stream =
-      ap listed stream ∙ listed_played (cycle_frames s) e i (told_at told track).stream (told_at run track).stream same ∙ ap listed (sym shows_slot.stream) in
-      let now = found_next s track i item low is before n told e f used.0 shows.0 in
-      let open_now : (kept (listed (told_at later track).stream)).shut ≡ None = ap (λ (y : Listed). (kept y).shut) same' ∙ ap (λ (z : Shape). (server_kept z (server_list (told_at next track).stream)).shut) lies'.shape ∙ unshut' in (
-        open_now,
-        entries_open high es next more (whole ∙ ap (λ y. y ++ more) (sym (cycle_states s run e))) (let a = ap length (cycle_states s run e) in omega arith) there' uses.2 legal.1 lies none' unshut'
-            later now used.2 shows.1 same',
-      )
+      let same' : listed (told_at later track).stream ≡ listed (told_at (with_cycle s run e) track).stream =
+      ap listed stream ∙ listed_played (cycle_frames s) e i (told_at told track).stream (told_at run track).stream same ∙ ap listed (sym along.0) in
+      (ap (λ (y : Listed). (kept y).shut) same' ∙ along.1, entries_open es (with_cycle s run e) later along.2 (found_next s track i item low is before n told e f used.0 shows.0) used.2 shows.1 same')
 
 open-append : (s : Session) (track : ℕ) (xs ys : List EntrySeen) (run : Run) → AllOpen s track xs run → AllOpen s track ys (with_cycles s xs run) → AllOpen s track (xs ++ ys) run
 open-append s track [] ys run a b = b
@@ -220,56 +228,16 @@ opens_of : (s : Session) (marks : Marks) (run : Run) (round : RoundSeen) (track 
     → FoundNow s track i item base (length run.states) (with_calls round run) → AllOpen s track (early_of run round ++ late_of run round) (with_calls round run)
 opens_of s marks run round track i item base legal f shows start =
     let o = over s run round track f.there in
-    let parts = fast_parts s marks run round legal f.fast in
     let uses = parts_use s marks run round legal f.fast f.knows_states in
-    let after : Run = after_round s run round in
     let called : Run = with_calls round run in
-    let before : Run = before_turn s run round in
-    let turn : Run = after_turn s run round in
-    let b0 : BlockTold = (told_at run track).stream in
-    let b1 : BlockTold = (told_at called track).stream in
-    let b2 : BlockTold = (told_at before track).stream in
-    let b3 : BlockTold = (told_at turn track).stream in
-    let b4 : BlockTold = (told_at (with_cycles s (late_of run round) turn) track).stream in
-    let b5 : BlockTold = (told_at (met_after s run round) track).stream in
-    let b6 : BlockTold = (told_at after track).stream in
-    let same : b6 ≡ b5 = o.whole in
-    let to5 : Later b2 b5 = later_both b2 b3 b5 o.turn (later_both b3 b4 b5 o.late o.meeting.is_later) in
-    let all5 : Later b0 b5 = later_both b0 b1 b5 o.calls.is_later (later_both b1 b2 b5 o.early to5) in
-    let history : HasBlockHistory b5 = (legal.histories.blocks track f.named).stream (sym (ends_part s (met_after s run round) track) ∙ f.part) (ap is_tame (sym same) ∙ f.tame) in
-    let k : Shape = b5.shape in
-    let cs : List ClientEvent = client_list b5 in
-    let h : Setting k cs (server_list b5) = record {
-      few = (let a = f.few in let c : k.frames ≡ b0.shape.frames = ap (λ (z : Shape). z.frames) all5.shape in omega arith);
-      spelled = subst (λ (b : BlockTold). IsClientList b.shape.frames b.shape.cells b.shape.base (client_list b)) same f.spelled;
-      no_flush = ap (λ (b : BlockTold). flushes_of (client_list b)) (sym same) ∙ f.no_flush;
-      released = b5.released;
-      taken = b5.taken;
-      hand = hand_list b5;
-      history = history;
-    } in
-    let n : ℕ = f.knows_released.count in
-    let first = early_states s run round in
-    let last = late_states s run round in
-    let lies5 : Lies s marks track i item f.slot f.item_is run after f.states k cs (server_list b5) h n b5 = record { shape = refl; rest = []; whole = sym (append-nil (server_list b5)) } in
-    let lies4 = lies_before s marks track i item f.slot f.item_is run after f.states k cs (server_list b5) h n b4 b5 o.meeting.is_later lies5 in
-    let lies2 = lies_before s marks track i item f.slot f.item_is run after f.states k cs (server_list b5) h n b2 b5 to5 lies5 in
-    let shape0 : b0.shape ≡ k = sym all5.shape in
-    let unshut0 : (server_kept k (server_list b0)).shut ≡ None = ap (λ z. (server_kept z (server_list b0)).shut) (sym shape0) ∙ f.is_open.unshut in
-    let none1 = quiet_none b0 b1 o.calls f.is_open.none in
-    let unshut1 = quiet_unshut b0 b1 o.calls k unshut0 in
-    let learnt1 = subst (Stands (server.Learn n)) (sym o.calls.is_later.server) (stands-more (server.Learn n) (server_list b0) o.calls.is_later.events f.knows_released.learnt) in
-    let long : length run.states ≤ length called.states = (let a = ap length (calls_states round run) in omega arith) in
-    let early = entries_take s marks track i item f.slot f.item_is run after f.states k cs (server_list b5) h n (length run.states) (early_of run round) called first.more first.whole
-    long o.first uses.early parts.early lies2 none1 unshut1 learnt1 in
+    let n : ℕ = length run.states in
+    let on = flowed_on s marks run round track i item legal f in
     let shown = shown-parts i (early_of run round) (late_of run round) shows in
-    let then_now = found_after s track i item f.slot f.item_is base (length run.states) (length run.states) (early_of run round) called start uses.early shown.0 in
-    let to_turn : listed b2 ≡ listed b3 = λ j. record { shape = sym o.turn.shape j; events = sym f.lent j } in
-    let a = entries_open s marks track i item f.slot f.item_is run after f.states k cs (server_list b5) h n base (length run.states) (length run.states) (early_of run round) called first.more first.whole long o.first uses.early parts.early lies2 none1 unshut1
-    called start uses.early shown.0 refl in
-    let b = entries_open s marks track i item f.slot f.item_is run after f.states k cs (server_list b5) h n base (length run.states) (length turn.states) (late_of run round) turn last.more last.whole (omega arith) o.last uses.late parts.late lies4
-    (ap drops_none f.lent ∙ early.none) (ap (λ l. (server_kept k l).shut) f.lent ∙ early.unshut) before then_now uses.late shown.1 to_turn in
-    open-append s track (early_of run round) (late_of run round) called a b
+    let then_now = found_after s track i item f.slot f.item_is base n n (early_of run round) called start uses.early shown.0 in
+    let to_turn : listed (told_at (before_turn s run round) track).stream ≡ listed (told_at (after_turn s run round) track).stream = λ j. record { shape = sym o.turn.shape j; events = sym f.lent j } in
+    open-append s track (early_of run round) (late_of run round) called
+    (entries_open s track i item f.slot f.item_is base n n (early_of run round) called called on.early start uses.early shown.0 refl)
+    (entries_open s track i item f.slot f.item_is base n (length (after_turn s run round).states) (late_of run round) (after_turn s run round) (before_turn s run round) on.late then_now uses.late shown.1 to_turn)
 
 -- what the report says before the entries of a round
 pub found_first : (s : Session) (run : Run) (track i : ℕ) (item : FastTrack) (before : SlotReport) (n : ℕ) → length run.states ≡ n → Uses (Plays i item) run.states n → HasItem i item run.normal.draft → track < length run.tracks → LastCarries run i → IsTold run track i item → Since before (slot_told run i) item
@@ -286,10 +254,10 @@ found_first s run track i item before n long u draft there last told since = rec
   since = since;
 }
 
--- The report that the turn of a round finds goes on from the one before the round, and says that the server is open
+-- The report that the turn of a round finds goes on from the one before the round, says that the server is open, and counts no more looks that showed frames than the last report of the round
 pub found_pushed : (s : Session) (marks : Marks) (run : Run) (round : RoundSeen) (track i : ℕ) (item : FastTrack) (m : ℕ) → LegalRound false s marks run round → FlowsIn s run round track i item → LastCarries run i → IsTold run track i item
     → HasItem i item run.normal.draft → length run.reports ≤ m → m ≤ length (with_cycles s round.entries (with_calls round run)).reports
-    → FoundFor (slot_told run i) (report_at (report_of (with_cycles s round.entries (with_calls round run)).reports m).slots i) item
+    → FoundFor (slot_told run i) (shown_looks (slot_told (after_round s run round) i)) (report_at (report_of (with_cycles s round.entries (with_calls round run)).reports m).slots i) item
 found_pushed s marks run round track i item m legal f last told draft low high =
     let o = over s run round track f.there in
     let parts = fast_parts s marks run round legal f.fast in
@@ -300,6 +268,7 @@ found_pushed s marks run round track i item m legal f last told draft low high =
     let n : ℕ = length run.states in
     let top : ℕ = length turn.states in
     let base : SlotReport = slot_told run i in
+    let most : ℕ = shown_looks (slot_told after i) in
     let first = early_states s run round in
     let final = late_states s run round in
     let long : length called.states ≡ n = ap length (calls_states round run) in
@@ -311,9 +280,12 @@ found_pushed s marks run round track i item m legal f last told draft low high =
     let since1 : Since base (slot_told called i) item =
     subst (λ (r : SlotReport). Since base r item) (sym slot1) (record { generation = told.generation; heard = omega arith; silent = omega arith; consumed = omega arith }) in
     let told1 : IsTold called track i item = told_same run called track i item c1 (known_quiet (told_at run track).stream (told_at called track).stream o.calls) told in
-    let good1 : FoundFor base (slot_told called i) item = record {
+    let counted = ((reported s marks run round track i item legal f).counted last).heard in
+    let same = ap shown_looks slot1 in
+    let good1 : FoundFor base most (slot_told called i) item = record {
       since = since1;
       unshut = told1.shut ∙ ap (λ (p : Option (ℕ × ℕ)). is_some p) (quiet_kept (told_at run track).stream (told_at called track).stream o.calls f.is_open.unshut);
+      few = omega (arith, counted, same);
     } in
     let start : FoundNow s track i item base n called = found_first s called track i item base n long u draft' o.first last1 told1 since1 in
     let fl = flowed s marks run round track i item legal f in
@@ -322,6 +294,7 @@ found_pushed s marks run round track i item m legal f last told draft low high =
     let both : AllUse n top (early_of run round ++ late_of run round) = use-append n top (early_of run round) (late_of run round) early uses.late in
     let shows : AllShown i (early_of run round ++ late_of run round) = subst (AllShown i) (sym cut) fl.shown in
     let opens : AllOpen s track (early_of run round ++ late_of run round) called = opens_of s marks run round track i item base legal f shows start in
-    let adds = entries_found s track i item f.slot f.item_is base n top (early_of run round ++ late_of run round) called start both shows opens in
-    let adds' : Adds called (with_cycles s round.entries called) (λ r. FoundFor base (report_at r.slots i) item) = subst (λ es. Adds called (with_cycles s es called) (λ r. FoundFor base (report_at r.slots i) item)) cut adds in
-    since_number called (with_cycles s round.entries called) (λ r. FoundFor base (report_at r.slots i) item) m adds' good1 (let a = ap length c1.reports in omega (arith, a, low)) high
+    let few : shown_looks (slot_told called i) + heard_in i (early_of run round ++ late_of run round) ≤ most = (let all = ap (heard_in i) cut in omega (arith, counted, same, all)) in
+    let adds = entries_found s track i item f.slot f.item_is base most n top (early_of run round ++ late_of run round) called start both shows opens few in
+    let adds' : Adds called (with_cycles s round.entries called) (λ r. FoundFor base most (report_at r.slots i) item) = subst (λ es. Adds called (with_cycles s es called) (λ r. FoundFor base most (report_at r.slots i) item)) cut adds in
+    since_number called (with_cycles s round.entries called) (λ r. FoundFor base most (report_at r.slots i) item) m adds' good1 (let a = ap length c1.reports in omega (arith, a, low)) high

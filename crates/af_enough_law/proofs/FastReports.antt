@@ -211,6 +211,14 @@ same_both a b c f g = record {
   states = g.states ∙ ap (λ l. l ++ g.more) f.states ∙ append_assoc a.states f.more g.more;
 }
 
+-- after its last entry a round stores no report
+pub rest_same : (s : Session) (run : Run) (round : RoundSeen) → SameReports (with_cycles s (late_of run round) (after_turn s run round)) (after_round s run round)
+rest_same s run round =
+    let late : Run = with_cycles s (late_of run round) (after_turn s run round) in
+    let all : Run = all_played s run round in
+    let end : Run = met_after s run round in
+    same_both late all (after_round s run round) (loaded_same round.turn late) (same_both all end (after_round s run round) (met_same s all) (ends_same end))
+
 -- ## The round
 
 some_part : (a b : ℕ) → a + b ≡ 16 → (1 ≤ a) ⊎ (1 ≤ b)
@@ -248,9 +256,6 @@ plays_reported s marks run round track i item legal f =
     let l = entries_told s track i item f.slot f.item_is run after f.states (length turn.states) (late_of run round) turn last.more last.whole (omega arith) uses.late in
     let c1 : SameReports run called = calls_same round run in
     let c2 : SameReports before turn = turned_same s (found_in s run round) round.turn before in
-    let c3 : SameReports late all = loaded_same round.turn late in
-    let c4 : SameReports all end = met_same s all in
-    let c5 : SameReports end after = ends_same end in
     let mixes = mixes_all s marks run round legal f.fast_mixer f.knows_states (f.states.0, λ number x low is. (f.states.1 number x low is).mixes) in
     let cut : early_of run round ++ late_of run round ≡ round.entries = take-append-drop (early_count run round) round.entries in
     let count : length (early_of run round) + length (late_of run round) ≡ 16 = sym (length-append (early_of run round) (late_of run round)) ∙ ap length cut ∙ mixes.count in
@@ -258,7 +263,7 @@ plays_reported s marks run round track i item legal f =
     let to_end : known_of (listed (told_at after track).stream) ≡ known_of (listed (told_at late track).stream) =
     ap (λ (b : BlockTold). known_of (listed b)) o.whole ∙ known_quiet (told_at late track).stream (told_at end track).stream o.meeting in
     let to_all : known_of (listed (told_at all track).stream) ≡ known_of (listed (told_at late track).stream) = ap (λ (t : TrackTold). known_of (listed t.stream)) (loaded_told round.turn late track) in
-    let c6 : SameReports late after = same_both late all after c3 (same_both all end after c4 c5) in
+    let c6 : SameReports late after = rest_same s run round in
     let at_late : IsTold late track i item × LastCarries late i = by_part (some_part (length (early_of run round)) (length (late_of run round)) count) e l (λ t. told_same before turn track i item c2 to_turn t) (λ t. last_same before turn i c2 t) in
     let h = heard-append i (early_of run round) (late_of run round) in
     let heard_all = ap (heard_in i) cut in

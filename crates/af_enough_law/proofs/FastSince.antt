@@ -1,5 +1,5 @@
 -- Each report of a round, also one that is loaded before the round is over, goes on from those before it.
-use Rattle.std.proofs.Common.{◌≡◌, ℕ, zero, suc, ◌+◌, ◌-◌, ◌≤◌, ◌<◌, if◌then◌else◌, Bool, List, [], ◌∷◌, ◌++◌, length, fold, refl, sym, ap, ◌∙◌, subst, arith, ne_eqb, length-append}
+use Rattle.std.proofs.Common.{◌≡◌, ℕ, zero, suc, ◌+◌, ◌-◌, ◌≤◌, ◌<◌, if◌then◌else◌, Bool, List, [], ◌∷◌, ◌++◌, length, fold, refl, sym, ap, ◌∙◌, subst, arith, ne_eqb, length-append, append_assoc, append-nil}
 use Rattle.af_enough_law.proofs.Common.{BlockTold, Report, Run, ServerEvent, ServerKept, Shape, fold-append, known_of, last_report, listed, no_report, report_of, server_begins, server_keeps, server_kept, server_list, slice_index_or}
 use Rattle.af_base.specs.declared.event.ServerEvent.TheVariants as server
 use Rattle.af_enough_law.proofs.FastFlows.{Later}
@@ -33,6 +33,16 @@ pub record Adds (run later : Run) (P : Report → Type 0) : Type 0 where
   pub news : List Report
   pub whole : later.reports ≡ run.reports ++ news
   pub each : AllReports P news
+
+all_join : (P : Report → Type 0) (xs ys : List Report) → AllReports P xs → AllReports P ys → AllReports P (xs ++ ys)
+all_join P [] ys h g = g
+all_join P (x ∷ xs) ys h g = (h.0, all_join P xs ys h.1 g)
+
+pub adds_both : (P : Report → Type 0) (a b c : Run) → Adds a b P → Adds b c P → Adds a c P
+adds_both P a b c f g = record { news = f.news ++ g.news; whole = g.whole ∙ ap (λ l. l ++ g.news) f.whole ∙ append_assoc a.reports f.news g.news; each = all_join P f.news g.news f.each g.each }
+
+pub adds_none : (P : Report → Type 0) (run : Run) → Adds run run P
+adds_none P run = record { news = []; whole = sym (append-nil run.reports); each = tt }
 
 -- ## The report of a number
 

@@ -5,7 +5,7 @@ use Rattle.af_base.specs.declared.event.ServerEvent.TheVariants as server
 use Rattle.af_enough_law.proofs.Basics.{asked_in-append, asked_is, taken-append}
 use Rattle.af_enough_law.specs.Seen.{Stands, frames_put, frames_taken}
 use Rattle.af_enough_law.proofs.FastWords.{taken_in, asked_in, AllShown, frames_left_in, FlowsIn, Flowed}
-use Rattle.af_enough_law.proofs.FastFlows.{Later, later_both, Lies, lies_before, entries_take}
+use Rattle.af_enough_law.proofs.FastFlows.{AllAlong, Later, later_both, Lies, lies_before, entries_take}
 use Rattle.af_enough_law.proofs.FastMixes.{early_states, late_states, mixes_all}
 use Rattle.af_enough_law.proofs.FastPolls.{parts_use, fast_parts}
 use Rattle.af_enough_law.proofs.FastRounds.{Quiet, over}
@@ -64,8 +64,14 @@ enough_by left f a b k t0 t1 t2 t3 t4 e0 e2 l1 l3 (inr x) y is is' = omega (arit
 
 -- ## The round
 
-pub flowed : (s : Session) (marks : Marks) (run : Run) (round : RoundSeen) (track i : ℕ) (item : FastTrack) → LegalRound false s marks run round → FlowsIn s run round track i item → Flowed s run round track i
-flowed s marks run round track i item legal f =
+-- what a round takes, and that its entries play the track all along and leave its server open, those before the turn and those after it
+pub record FlowedOn (s : Session) (run : Run) (round : RoundSeen) (track i : ℕ) : Type 0 where
+  pub flowed : Flowed s run round track i
+  pub early : AllAlong s track i (early_of run round) (with_calls round run)
+  pub late : AllAlong s track i (late_of run round) (after_turn s run round)
+
+pub flowed_on : (s : Session) (marks : Marks) (run : Run) (round : RoundSeen) (track i : ℕ) (item : FastTrack) → LegalRound false s marks run round → FlowsIn s run round track i item → FlowedOn s run round track i
+flowed_on s marks run round track i item legal f =
     let o = over s run round track f.there in
     let parts = fast_parts s marks run round legal f.fast in
     let uses = parts_use s marks run round legal f.fast f.knows_states in
@@ -101,11 +107,13 @@ flowed s marks run round track i item legal f =
     let shape0 : b0.shape ≡ k = sym all5.shape in
     let unshut0 : (server_kept k (server_list b0)).shut ≡ None = ap (λ z. (server_kept z (server_list b0)).shut) (sym shape0) ∙ f.is_open.unshut in
     let learnt1 = subst (Stands (server.Learn n)) (sym o.calls.is_later.server) (stands-more (server.Learn n) (server_list b0) o.calls.is_later.events f.knows_released.learnt) in
-    let early = entries_take s marks track i item f.slot f.item_is run after f.states k cs (server_list b5) h n (length run.states) (early_of run round) (with_calls round run) first.more first.whole
+    let early_on = entries_take s marks track i item f.slot f.item_is run after f.states k cs (server_list b5) h n (length run.states) (early_of run round) (with_calls round run) first.more first.whole
     (let a = ap length (calls_states round run) in omega arith) o.first uses.early parts.early lies2 (quiet_none b0 b1 o.calls f.is_open.none) (quiet_unshut b0 b1 o.calls k unshut0) learnt1 in
+    let early = early_on.0 in
     let learnt2 = subst (Stands (server.Learn n)) (sym o.early.server) (stands-more (server.Learn n) (server_list b1) o.early.events learnt1) in
-    let late = entries_take s marks track i item f.slot f.item_is run after f.states k cs (server_list b5) h n (length (after_turn s run round).states) (late_of run round) (after_turn s run round) last.more last.whole
+    let late_on = entries_take s marks track i item f.slot f.item_is run after f.states k cs (server_list b5) h n (length (after_turn s run round).states) (late_of run round) (after_turn s run round) last.more last.whole
     (omega arith) o.last uses.late parts.late lies4 (ap drops_none f.lent ∙ early.none) (ap (λ l. (server_kept k l).shut) f.lent ∙ early.unshut) (subst (Stands (server.Learn n)) (sym f.lent) learnt2) in
+    let late = late_on.0 in
     let mixes = mixes_all s marks run round legal f.fast f.knows_states (f.states.0, λ number x low is. (f.states.1 number x low is).mixes) in
     let cut : early_of run round ++ late_of run round ≡ round.entries = take-append-drop (early_count run round) round.entries in
     let t1 = quiet_taken b0 b1 o.calls in
@@ -125,10 +133,17 @@ flowed s marks run round track i item legal f =
     (frames_taken (server_list b0)) (frames_taken (server_list b1)) (frames_taken (server_list b2)) (frames_taken (server_list b3)) (frames_taken (server_list b4)) t1 t3 (omega arith) (omega arith) early.reaches late.reaches asked (omega arith) in
     let low5 = taken_low b5 history none5 in
     record {
-      mixes = mixes;
-      shown = subst (AllShown i) cut (shown-append i (early_of run round) (late_of run round) early.shown late.shown);
-      taken = omega arith;
-      within = omega arith;
-      enough = omega arith;
-      is_open = record { none = ap (λ (b : BlockTold). drops_none (server_list b)) same ∙ none5; unshut = ap (λ (b : BlockTold). (server_kept b.shape (server_list b)).shut) same ∙ quiet_unshut b4 b5 o.meeting k late.unshut };
+      flowed = record {
+        mixes = mixes;
+        shown = subst (AllShown i) cut (shown-append i (early_of run round) (late_of run round) early.shown late.shown);
+        taken = omega arith;
+        within = omega arith;
+        enough = omega arith;
+        is_open = record { none = ap (λ (b : BlockTold). drops_none (server_list b)) same ∙ none5; unshut = ap (λ (b : BlockTold). (server_kept b.shape (server_list b)).shut) same ∙ quiet_unshut b4 b5 o.meeting k late.unshut };
+      };
+      early = early_on.1;
+      late = late_on.1;
     }
+
+pub flowed : (s : Session) (marks : Marks) (run : Run) (round : RoundSeen) (track i : ℕ) (item : FastTrack) → LegalRound false s marks run round → FlowsIn s run round track i item → Flowed s run round track i
+flowed s marks run round track i item legal f = (flowed_on s marks run round track i item legal f).flowed

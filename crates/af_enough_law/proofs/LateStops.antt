@@ -1,6 +1,6 @@
 -- The round in which a proxy leaves that the last state plays, whether the fast mixer had it before or not: its turn doesn't hear that the stream is shut.
 use Rattle.std.proofs.Common.{◌≡◌, ◌⊎◌, inl, inr, ℕ, ◌≤◌, ◌<◌, is_some, true, false, All, Some, length, sym, ap, ◌∙◌, subst, arith}
-use Rattle.af_enough_law.proofs.Common.{FastState, FastTrack, Heard, Learnt, LegalRound, Marks, NormalKept, Returning, RoundSeen, Run, Session, Setting, TrackKept, after_round, after_turn, before_turn, cycle_frames, ends_part, is_home, is_lent, is_returning, learnt, load_of, met_after, number_of, plays, report_at, report_of, server_list, setup_of, slot_reported, state_of, takes_part, told_at, track_at, track_count, turn_after, with_calls, with_cycles}
+use Rattle.af_enough_law.proofs.Common.{FastState, FastTrack, Heard, LegalRound, Marks, NormalKept, Returning, RoundSeen, Run, Session, Setting, TrackKept, after_round, after_turn, before_turn, cycle_frames, ends_part, is_home, is_lent, is_returning, learnt, met_after, number_of, plays, server_list, setup_of, slot_reported, state_of, takes_part, told_at, track_at, track_count, turn_after}
 use Rattle.af_enough_law.proofs.Carried.{SessionCarried}
 use Rattle.af_enough_law.proofs.Drafts.{PushMade}
 use Rattle.af_enough_law.proofs.FastWords.{slot_told}
@@ -9,8 +9,8 @@ use Rattle.af_enough_law.proofs.AdoptRounds.{away_heard}
 use Rattle.af_enough_law.proofs.AwayKeeps.{StaysOpen, open_then, away_turn}
 use Rattle.af_enough_law.proofs.AwayRounds.{AwayTurn}
 use Rattle.af_enough_law.proofs.Commanding.{le_cases}
-use Rattle.af_enough_law.proofs.EntryCounts.{found_within}
-use Rattle.af_enough_law.proofs.Following.{greeted_in, greeted_alike}
+use Rattle.af_enough_law.proofs.FoundReports.{found_reported}
+use Rattle.af_enough_law.proofs.Following.{greeted_in}
 use Rattle.af_enough_law.proofs.Foreseen.{Foreseen, part_seen}
 use Rattle.af_enough_law.proofs.Generations.{Attached, greeted_lent, greeted_same, attached_stays}
 use Rattle.af_enough_law.proofs.HomeRounds.{IsNamed}
@@ -138,11 +138,4 @@ module _ (s : Session) (marks : Marks) (scales : All (λ (x : Setting). x.scale 
 
         report : (slot_reported (learnt t.by.outside) g).generation ≡ g.generation → (slot_reported (learnt t.by.outside) g).shut ≡ false
         report e =
-            let within = found_within s run round marks false t.turn legal c.stands.stored c.reports t.is goes c.stands.logged in
-            let m : ℕ = load_of (with_calls round run) t.turn in
-            let number = ap number_of ((greeted_alike t.turn.ack run.normal.last (track_at run.normal.tracks i)).slot ∙ p.lending.slot_is) in
-            let found : SaysOpenOf item (report_at (report_of (with_cycles s round.entries (with_calls round run)).reports m).slots slot) =
-            meets_open s marks run round i slot item legal meeting (λ k y above is. inr (out_pushed k y above is)) turn_adds left_seen m within.0 within.1 in
-            let here : report_at (report_of (with_cycles s round.entries (with_calls round run)).reports m).slots slot ≡ slot_reported (learnt t.by.outside) g =
-            ap (λ (n : ℕ). report_at (report_of (with_cycles s round.entries (with_calls round run)).reports m).slots n) (sym number) ∙ ap (λ (k : Learnt). slot_reported k g) (sym t.sees) in
-            subst (SaysOpenOf item) here found (e ∙ same.generation ∙ sym (ap (λ (x : FastTrack). x.generation) p.lending.item_is))
+            found_reported s marks run round legal c.stands c.reports t goes i slot p.lending.slot_is (SaysOpenOf item) (meets_open s marks run round i slot item legal meeting (λ k y above is. inr (out_pushed k y above is)) turn_adds left_seen) (e ∙ same.generation ∙ sym (ap (λ (x : FastTrack). x.generation) p.lending.item_is))

@@ -1,17 +1,17 @@
 -- The entries of a round in which a track leaves: those of the state before play it, and those of the state that the turn pushes don't touch it. The report that the turn finds says that its server is open.
-use Rattle.std.proofs.Common.{◌≡◌, ◌⊎◌, inl, inr, ℕ, zero, suc, ◌+◌, ◌≤◌, ◌<◌, ◌==◌, ◌&&◌, ◌||◌, if◌then◌else◌, is_some, Bool, true, false, true≢false, Option, Some, None, List, [], ◌∷◌, ◌++◌, length, refl, sym, ap, ◌∙◌, subst, arith, append_assoc, append-nil, eqb-true}
-use Rattle.af_enough_law.proofs.Common.{BlockTold, ClientEvent, CycleEntry, EntrySeen, FastState, FastTrack, LegalEntries, LegalEntry, Listed, LooksBy, Marks, Report, Run, ServerEvent, Session, Shape, SlotEntry, SlotReport, TrackTold, carries, counted_look, cycle_events, cycle_frames, entry_slot, find, front_of, is_mixed, is_shown, known_of, last_report, last_used, listed, next_slot, no_slot, played, polled_known, polled_waits, range_with_len, report_at, server_kept, server_list, slot_playing, slot_of, slot_report, slots, state_beyond, state_for, state_of, stream_of, three, told_at, with_cycle, with_cycles, with_looks, with_mix, with_poll, never_true}
+use Rattle.std.proofs.Common.{◌≡◌, ◌⊎◌, inl, inr, ℕ, zero, suc, ◌+◌, ◌≤◌, ◌<◌, ◌==◌, ◌&&◌, ◌||◌, if◌then◌else◌, is_some, Bool, true, false, true≢false, Option, Some, None, List, [], ◌∷◌, ◌++◌, length, refl, sym, ap, ◌∙◌, subst, arith, eqb-true}
+use Rattle.af_enough_law.proofs.Common.{BlockTold, ClientEvent, CycleEntry, EntrySeen, FastState, FastTrack, LegalEntries, LegalEntry, Listed, LooksBy, Marks, Run, ServerEvent, Session, Shape, SlotEntry, SlotReport, TrackTold, carries, counted_look, cycle_events, cycle_frames, entry_slot, find, front_of, is_mixed, is_shown, known_of, last_report, last_used, listed, next_slot, no_slot, played, polled_known, polled_waits, range_with_len, report_at, server_kept, server_list, slot_playing, slot_of, slot_report, slots, state_beyond, state_for, state_of, stream_of, three, told_at, with_cycle, with_cycles, with_looks, with_mix, with_poll, never_true}
 use Rattle.af_enough_law.proofs.Basics.{state_there}
 use Rattle.af_runs.specs.Runs.{shows_slot}
 use Rattle.af_enough_law.proofs.FastWords.{AllUse, Plays, slot_told, HasItem, IsTold}
 use Rattle.af_enough_law.proofs.Commanding.{le_cases}
 use Rattle.af_enough_law.proofs.Fair.{calm_drops}
 use Rattle.af_enough_law.proofs.FastFlows.{PlaysTrack, plays_track, cycles_later}
-use Rattle.af_enough_law.proofs.FastFound.{listed_played, adds_one, is_look}
+use Rattle.af_enough_law.proofs.FastFound.{listed_played, adds_more, is_look}
 use Rattle.af_enough_law.proofs.FastMixes.{Uses}
-use Rattle.af_enough_law.proofs.FastReports.{entry_told, slot_counts, last_more}
+use Rattle.af_enough_law.proofs.FastReports.{entry_told, slot_counts}
 use Rattle.af_enough_law.proofs.FastShows.{Setting, Look, slot_look}
-use Rattle.af_enough_law.proofs.FastSince.{Adds}
+use Rattle.af_enough_law.proofs.FastSince.{Adds, adds_none}
 use Rattle.af_enough_law.proofs.FastSteps.{cycle_states, cycle_track, mixed_stream, played_server, slot_only, cycle_draft}
 use Rattle.af_enough_law.proofs.StreamCalm.{IsQuiet, LiesIn, lies_earlier, calm_join, calm_cycle, still_shows}
 use Rattle.af_enough_law.proofs.RunTracks.{cycle_long}
@@ -202,7 +202,7 @@ module _ (s : Session) (marks : Marks) (track slot : ℕ) (item : FastTrack) (so
 
   pub left_entries : (high : ℕ) (es : List EntrySeen) (run told : Run) → KnowsLeft run → track < length run.tracks → AllUse n high es → high ≤ length run.states → LegalEntries s marks run es → LiesIn k cs all h (told_at (with_cycles s es run) track).stream
       → LeftStep s track slot item x d n k run told → LeftEnd run told es
-  left_entries high [] run told knows there uses top legal lies step = record { step = step; adds = record { news = []; whole = sym (append-nil told.reports); each = tt } }
+  left_entries high [] run told knows there uses top legal lies step = record { step = step; adds = adds_none (λ r. SaysOpen (report_at r.slots slot) item) told }
   left_entries high (e ∷ es) run told knows there uses top legal lies step =
       let next : Run = with_cycle s run e in
       let later : Run = with_cycle s told e in
@@ -213,15 +213,9 @@ module _ (s : Session) (marks : Marks) (track slot : ℕ) (item : FastTrack) (so
       let states = cycle_states s run e in
       let knows' : KnowsLeft next = (ap (λ l. state_of l n) states ∙ knows.0, knows.1, λ m y above at. knows.2 m y above (ap (λ l. state_of l m) (sym states) ∙ at)) in
       let rest = left_entries high es next later knows' there' uses.2 (let a = ap length states in omega (arith, a, top)) legal.1 lies now in
-      let added = adds_one s told e in
-      let at : slot_told later slot ≡ report_at added.report.slots slot = ap (λ (l : List Report). report_at (last_report l).slots slot) added.whole ∙ ap (λ (r : Report). report_at r.slots slot) (last_more told.reports added.report) in
       record {
         step = rest.step;
-        adds = record {
-          news = added.report ∷ rest.adds.news;
-          whole = rest.adds.whole ∙ ap (λ l. l ++ rest.adds.news) added.whole ∙ append_assoc told.reports (added.report ∷ []) rest.adds.news;
-          each = (subst (λ (r : SlotReport). SaysOpen r item) at (record { unshut = told_unshut next later lies'.shape now; generation = now.reported.generation }), rest.adds.each);
-        };
+        adds = adds_more s slot (λ r. SaysOpen r item) told e es (record { unshut = told_unshut next later lies'.shape now; generation = now.reported.generation }) rest.adds;
       }
     where
       by : (e.entry.state ≡ n) ⊎ (n < e.entry.state) → (e.entry.state ≡ n → LeftStep s track slot item x d n k (with_cycle s run e) (with_cycle s told e)) → (n < e.entry.state → LeftStep s track slot item x d n k (with_cycle s run e) (with_cycle s told e))

@@ -1,27 +1,16 @@
 -- The report that a turn finds in a round in which a track leaves says that its server is open, if its lists lie in a history.
-use Rattle.std.proofs.Common.{◌≡◌, ℕ, ◌≤◌, ◌<◌, is_some, false, true≢false, Some, List, [], ◌∷◌, ◌++◌, length, refl, sym, ap, ◌∙◌, subst, arith, append_assoc}
-use Rattle.af_enough_law.proofs.Common.{EntrySeen, FastState, FastTrack, LegalRound, Marks, NormalKept, Report, RoundSeen, Run, Session, Shape, SlotReport, after_round, after_turn, all_played, before_turn, calls_states, early_count, early_of, fast_ended, found_in, late_of, listed, met_after, report_at, report_of, server_list, slots, state_beyond, state_more, state_of, take-append-drop, told_at, with_calls, with_cycle, with_cycles}
+use Rattle.std.proofs.Common.{◌≡◌, ℕ, ◌≤◌, ◌<◌, is_some, false, true≢false, Some, [], ◌∷◌, ◌++◌, length, refl, sym, ap, ◌∙◌, subst, arith}
+use Rattle.af_enough_law.proofs.Common.{FastState, FastTrack, LegalRound, Marks, NormalKept, RoundSeen, Run, Session, Shape, SlotReport, after_round, after_turn, before_turn, calls_states, early_of, fast_ended, found_in, late_of, listed, report_at, report_of, server_list, slots, state_beyond, state_more, state_of, told_at, with_calls, with_cycles}
 use Rattle.af_enough_law.proofs.FastWords.{KnowsStates, Plays, IsTold, slot_told}
-use Rattle.af_enough_law.proofs.FastFound.{calls_current}
+use Rattle.af_enough_law.proofs.FastFound.{adds_round, calls_current}
 use Rattle.af_enough_law.proofs.FastPolls.{fast_parts, parts_use, round_states, turn_more}
-use Rattle.af_enough_law.proofs.FastReports.{calls_same, turned_same, loaded_same, met_same, ends_same, slot_same, told_same, known_quiet}
+use Rattle.af_enough_law.proofs.FastReports.{calls_same, turned_same, rest_same, slot_same, told_same, known_quiet}
 use Rattle.af_enough_law.proofs.FastRounds.{over}
-use Rattle.af_enough_law.proofs.FastSince.{Adds, AllReports, since_number}
+use Rattle.af_enough_law.proofs.FastSince.{since_number}
 use Rattle.af_enough_law.proofs.Foreseen.{Foreseen}
 use Rattle.af_enough_law.proofs.LeftEntries.{IsOut, SaysOpen, LeftStep, KnowsLeft, left_entries, HasOrOut}
 use Rattle.af_enough_law.proofs.RoundCalm.{known_open, quiet_only, lie_through}
 use Rattle.af_enough_law.proofs.StreamCalm.{IsQuiet}
-
-pub cycles_append : (s : Session) (xs ys : List EntrySeen) (run : Run) → with_cycles s (xs ++ ys) run ≡ with_cycles s ys (with_cycles s xs run)
-cycles_append s [] ys run = refl
-cycles_append s (x ∷ xs) ys run = cycles_append s xs ys (with_cycle s run x)
-
-all_join : (P : Report → Type 0) (xs ys : List Report) → AllReports P xs → AllReports P ys → AllReports P (xs ++ ys)
-all_join P [] ys h g = g
-all_join P (x ∷ xs) ys h g = (h.0, all_join P xs ys h.1 g)
-
-pub adds_both : (P : Report → Type 0) (a b c : Run) → Adds a b P → Adds b c P → Adds a c P
-adds_both P a b c f g = record { news = f.news ++ g.news; whole = g.whole ∙ ap (λ l. l ++ g.news) f.whole ∙ append_assoc a.reports f.news g.news; each = all_join P f.news g.news f.each g.each }
 
 -- what is known of a track whose proxy the fast mixer has, before a round in which it may leave
 pub record Flowing (s : Session) (run : Run) (track slot : ℕ) (item : FastTrack) : Type 0 where
@@ -101,12 +90,8 @@ found_open s marks run round track slot item legal f out lent seen =
     let knows2 : KnowsLeft s marks track slot item f.some f.low f.is x f.plays d f.draft n k seen.list seen.events seen.setting turn =
     (ap (λ l. state_of l n) whole ∙ state_more run.states (turn_more s run round).more n (omega arith) ∙ f.last, f.states, λ m y above at. out m y above (ap (λ l. state_of l m) (round_states s run round) ∙ at)) in
     let e2 = left_entries s marks track slot item f.some f.low f.is x f.plays d f.draft n k seen.list seen.events seen.setting top (late_of run round) turn before knows2 o.last uses.late (omega arith) parts.late lies.late second in
-    let cut : early_of run round ++ late_of run round ≡ round.entries = take-append-drop (early_count run round) round.entries in
-    let all_is : with_cycles s (late_of run round) before ≡ with_cycles s round.entries called = sym (cycles_append s (early_of run round) (late_of run round) called) ∙ ap (λ es. with_cycles s es called) cut in
-    let adds : Adds called (with_cycles s round.entries called) (λ r. SaysOpen (report_at r.slots slot) item) =
-    subst (λ (r : Run). Adds called r (λ r. SaysOpen (report_at r.slots slot) item)) all_is (adds_both (λ r. SaysOpen (report_at r.slots slot) item) called before (with_cycles s (late_of run round) before) e1.adds e2.adds) in
-    let all : Run = all_played s run round in
+    let adds = adds_round s run round (λ r. SaysOpen (report_at r.slots slot) item) e1.adds e2.adds in
     record {
       found = λ m low high. since_number called (with_cycles s round.entries called) (λ r. SaysOpen (report_at r.slots slot) item) m adds (record { unshut = open1; generation = told1.generation }) (let a = ap length c1.reports in omega (arith, a, low)) high;
-      last = subst (λ (r : SlotReport). SaysOpen r item) (sym (slot_same (met_after s run round) (after_round s run round) slot (ends_same (met_after s run round)) ∙ slot_same all (met_after s run round) slot (met_same s all) ∙ slot_same late all slot (loaded_same round.turn late))) (record { unshut = e2.step.unshut; generation = e2.step.generation });
+      last = subst (λ (r : SlotReport). SaysOpen r item) (sym (slot_same late (after_round s run round) slot (rest_same s run round))) (record { unshut = e2.step.unshut; generation = e2.step.generation });
     }

@@ -1,15 +1,15 @@
 -- The round in which a lent track leaves: it hears that its stream is open, all that its client is answered is fair, and it is on its course after it. What isn't told by the history of this round is told by that of the next one.
 use Rattle.std.proofs.Common.{◌≡◌, inl, ℕ, ◌≤◌, ◌<◌, if◌then◌else◌, is_some, Bool, true, false, true≢false, All, Some, length, refl, sym, ap, ◌∙◌, subst, arith}
-use Rattle.af_enough_law.proofs.Common.{FastState, FastTrack, Learnt, LegalRound, Lent, Marks, NormalKept, Returning, RoundSeen, Run, Session, Setting, SlotReport, TrackKept, after_round, carries, cycle_frames, ends_part, heard, is_home, is_lent, is_over, is_returning, learnt, load_of, met_after, number_of, plays, report_at, report_of, setup_of, slot_number, slot_of, slot_reported, state_of, takes_part, told_at, track_at, track_count, turn_after, turn_len, with_calls, with_cycles}
+use Rattle.af_enough_law.proofs.Common.{FastState, FastTrack, LegalRound, Lent, Marks, NormalKept, Returning, RoundSeen, Run, Session, Setting, TrackKept, after_round, carries, cycle_frames, ends_part, heard, is_home, is_lent, is_over, is_returning, learnt, met_after, number_of, plays, setup_of, slot_number, slot_of, slot_reported, state_of, takes_part, told_at, track_at, track_count, turn_after, turn_len}
 use Rattle.af_enough_law.proofs.Basics.{not_over}
 use Rattle.af_enough_law.proofs.Carried.{SessionCarried}
 use Rattle.af_enough_law.proofs.Drafts.{next_holder, holder_turned}
-use Rattle.af_enough_law.proofs.Ends.{IsInOrder, silent}
+use Rattle.af_enough_law.proofs.Ends.{IsInOrder}
 use Rattle.af_enough_law.proofs.NormalRounds.{TurnMade}
 use Rattle.af_enough_law.proofs.CommandsGo.{OpenTurn}
-use Rattle.af_enough_law.proofs.EntryCounts.{found_within}
-use Rattle.af_enough_law.proofs.Following.{greeted_in, greeted_alike}
-use Rattle.af_enough_law.proofs.Foreseen.{Foreseen, KeepsTo, keeps_to, part_seen}
+use Rattle.af_enough_law.proofs.FoundReports.{found_reported}
+use Rattle.af_enough_law.proofs.Following.{greeted_in}
+use Rattle.af_enough_law.proofs.Foreseen.{Foreseen, KeepsTo, keeps_to}
 use Rattle.af_enough_law.proofs.Generations.{greeted_lent, greeted_same}
 use Rattle.af_enough_law.proofs.HomeRounds.{keeps_of}
 use Rattle.af_enough_law.proofs.StatesHold.{beyond_draft}
@@ -17,7 +17,7 @@ use Rattle.af_enough_law.proofs.LeftEntries.{IsOut, SaysOpen}
 use Rattle.af_enough_law.proofs.LeftFound.{Flowing, FoundOpen, found_open}
 use Rattle.af_enough_law.proofs.LentRounds.{LentCarried, heard_away, heard_opened, draft_item}
 use Rattle.af_enough_law.proofs.LentTurns.{turn_leaves}
-use Rattle.af_enough_law.proofs.Lookahead.{Coming, missed, greeted_coming, home_then, seen_before, ended_then}
+use Rattle.af_enough_law.proofs.Lookahead.{ended_seen as ended_by, Coming, missed}
 use Rattle.af_enough_law.proofs.Orders.{lent_carried}
 use Rattle.af_enough_law.proofs.SessionRounds.{turn_of, turn_runs, session_carried}
 use Rattle.af_enough_law.proofs.Slots.{slot_stays}
@@ -132,15 +132,7 @@ module _ (s : Session) (marks : Marks) (scales : All (λ (x : Setting). x.scale 
 
   -- what was done to the stream of a track whose life has ended is told by this round's history or the next one's
   pub ended_seen : (track_at after.normal.tracks i).life.ended ≡ true → Foreseen (told_at after i).stream
-  ended_seen ended = by (takes_part s (met_after s run round) i) refl
-    where
-      by : (b : Bool) → takes_part s (met_after s run round) i ≡ b → Foreseen (told_at after i).stream
-      by true part = part_seen false s marks run round t i low_run named legal keeps part
-      by false none =
-          let home = greeted_coming s marks scales long after next legal_next session i named slot (coming none) returning (ap number_of slot_then) in
-          let still = ended_then s marks scales long after next legal_next session i named ended in
-          let there = home_then s marks scales long after next legal_next session i named home (silent (track_at (after_round s after next).normal.tracks i).life still) in
-          seen_before s marks scales long after next legal_next session i named keeps_then there
+  ended_seen ended = ended_by s marks scales long run round next t i slot low_run named legal legal_next session keeps returning (ap number_of slot_then) coming ended
 
   pub away : is_home g.holder ≡ false
   away = ap is_home (greeted_lent t.turn.ack run.normal.last (track_at run.normal.tracks i) l.lent)
@@ -149,16 +141,8 @@ module _ (s : Session) (marks : Marks) (scales : All (λ (x : Setting). x.scale 
   pub open_by : Foreseen (told_at after i).stream → FoundOpen s run round i slot item
   open_by seen = found_open s marks run round i slot item legal flowing out_pushed (turn_leaves s marks run round t i low_run there runs away (ap is_some slot_turned)) seen
 
-  number_g : slot_number g ≡ slot
-  number_g = ap number_of ((greeted_alike t.turn.ack run.normal.last (track_at run.normal.tracks i)).slot ∙ l.slot_is)
-
   report_open : Foreseen (told_at after i).stream → SaysOpen (slot_reported (learnt t.by.outside) g) item
-  report_open seen =
-      let within = found_within s run round marks false t.turn legal c.stands.stored c.reports t.is runs c.stands.logged in
-      let m : ℕ = load_of (with_calls round run) t.turn in
-      subst (λ (r : SlotReport). SaysOpen r item)
-      (ap (λ (n : ℕ). report_at (report_of (with_cycles s round.entries (with_calls round run)).reports m).slots n) (sym number_g) ∙ ap (λ (k : Learnt). slot_reported k g) (sym t.sees))
-      ((open_by seen).found m within.0 within.1)
+  report_open seen = found_reported s marks run round legal c.stands c.reports t runs i slot l.slot_is (λ r. SaysOpen r item) (open_by seen).found
 
   same_generation : item.generation ≡ g.generation
   same_generation = ap (λ (x : FastTrack). x.generation) l.item_is ∙ sym (greeted_same t.turn.ack run.normal.last (track_at run.normal.tracks i)).generation

@@ -11,7 +11,7 @@ use Rattle.af_enough_law.proofs.CourseGoes.{OnCourse}
 use Rattle.af_enough_law.proofs.FairTurns.{codes_long}
 use Rattle.af_enough_law.proofs.FastReports.{heard_some}
 use Rattle.af_enough_law.proofs.Following.{greeted_in}
-use Rattle.af_enough_law.proofs.FoundCounts.{shown_looks}
+use Rattle.af_enough_law.proofs.FastFound.{shown_looks}
 use Rattle.af_enough_law.proofs.GainRounds.{fed, sent, fewer, gain_round}
 use Rattle.af_enough_law.proofs.GainTurns.{calls_few}
 use Rattle.af_enough_law.proofs.LentFlows.{LentGone}

@@ -1,23 +1,23 @@
 -- What is carried of a track whose proxy is lent is kept by a round that leaves it lent.
-use Rattle.std.proofs.Common.{◌≡◌, ℕ, ◌≤◌, ◌<◌, ◌&&◌, not, is_some, Bool, true, false, true≢false, All, length, length-append, refl, sym, ap, ◌∙◌, subst, arith}
-use Rattle.af_enough_law.proofs.Common.{Counts, FastTrack, Learnt, LegalRound, Lent, Life, Marks, NormalKept, RoundSeen, Run, Session, Setting, SlotReport, TrackKept, after_round, client_list, counts_in, ends_part, observer_holds, is_home, learnt, load_of, met_after, number_of, or_right, plays, report_at, report_of, server_list, setup_of, slot_number, slot_reported, takes_part, told_at, track_at, track_count, with_calls, with_cycles}
+use Rattle.std.proofs.Common.{◌≡◌, ℕ, ◌≤◌, ◌<◌, ◌&&◌, not, is_some, Bool, true, false, true≢false, All, length, length-append, refl, sym, ap, ◌∙◌, arith}
+use Rattle.af_enough_law.proofs.Common.{Counts, FastTrack, LegalRound, Lent, Life, Marks, NormalKept, RoundSeen, Run, Session, Setting, TrackKept, after_round, client_list, counts_in, ends_part, observer_holds, is_home, learnt, met_after, or_right, plays, server_list, setup_of, slot_reported, takes_part, told_at, track_at, track_count}
 use Rattle.af_enough_law.proofs.Basics.{state_there}
 use Rattle.af_enough_law.proofs.Carried.{SessionCarried}
 use Rattle.af_enough_law.proofs.FastWords.{FlowsIn, Flowed, Reported, slot_told, HasItem}
 use Rattle.af_enough_law.proofs.Items.{item_of}
 use Rattle.af_enough_law.proofs.NormalRounds.{TurnMade}
 use Rattle.af_enough_law.proofs.CommandsGo.{OpenTurn}
-use Rattle.af_enough_law.proofs.EntryCounts.{found_within, round_high}
+use Rattle.af_enough_law.proofs.EntryCounts.{round_high}
 use Rattle.af_enough_law.proofs.Fair.{calm_drops}
-use Rattle.af_enough_law.proofs.FastFound.{FoundFor, found_pushed}
+use Rattle.af_enough_law.proofs.FastFound.{FoundFor, found_pushed, shown_looks}
 use Rattle.af_enough_law.proofs.FastKnows.{knows_released}
 use Rattle.af_enough_law.proofs.FastPolls.{round_states, turn_more}
 use Rattle.af_enough_law.proofs.FastReports.{reported}
 use Rattle.af_enough_law.proofs.FastTakes.{flowed}
 use Rattle.af_enough_law.proofs.Flushless.{unflushed_none}
+use Rattle.af_enough_law.proofs.FoundReports.{found_reported}
 use Rattle.af_enough_law.proofs.Following.{greeted_in, greeted_alike}
 use Rattle.af_enough_law.proofs.Foreseen.{KeepsTo, keeps_to}
-use Rattle.af_enough_law.proofs.FoundCounts.{shown_looks, found_most}
 use Rattle.af_enough_law.proofs.Generations.{greeted_lent, greeted_same}
 use Rattle.af_enough_law.proofs.HeardFresh.{reported_turned}
 use Rattle.af_enough_law.proofs.HomeRounds.{keeps_of}
@@ -34,11 +34,10 @@ pub record LentGone (s : Session) (marks : Marks) (run : Run) (round : RoundSeen
   pub lent : LentCarried s (after_round s run round) i slot item
   pub flowed : Flowed s run round i slot
   pub reported : Reported s run round i slot item
-  pub found : FoundFor (slot_told run slot) (slot_reported (learnt t.by.outside) (greeted_in run.normal t.turn i)) item
+  pub found : FoundFor (slot_told run slot) (shown_looks (slot_told (after_round s run round) slot)) (slot_reported (learnt t.by.outside) (greeted_in run.normal t.turn i)) item
   pub open_is : OpenTurn s marks run round i t
   -- the turn has heard of all looks that this report tells, which are no more than those that the last report of the round tells
   pub noted : (track_at (after_round s run round).normal.tracks i).reported ≡ counts_in (slot_reported (learnt t.by.outside) (greeted_in run.normal t.turn i))
-  pub most_found : shown_looks (slot_reported (learnt t.by.outside) (greeted_in run.normal t.turn i)) ≤ shown_looks (slot_told (after_round s run round) slot)
   -- no more looks were heard of than the last report tells
   pub heard_of : HeardOf (after_round s run round) i slot
 
@@ -111,14 +110,8 @@ module _ (s : Session) (marks : Marks) (scales : All (λ (x : Setting). x.scale 
   draft_now = draft_item s run i slot item c.stands.order c.stands.items l.lent l.slot_is l.item_is
 
   -- the report that the turn finds goes on, and says that its server is open
-  pub found : FoundFor (slot_told run slot) (slot_reported (learnt t.by.outside) g) item
-  found =
-      let within = found_within s run round marks false t.turn legal c.stands.stored c.reports t.is goes c.stands.logged in
-      let m : ℕ = load_of (with_calls round run) t.turn in
-      let f = found_pushed s marks run round i slot item m legal flows l.used l.told draft_now within.0 within.1 in
-      let number = ap number_of ((greeted_alike t.turn.ack run.normal.last (track_at run.normal.tracks i)).slot ∙ l.slot_is) in
-      subst (λ (r : SlotReport). FoundFor (slot_told run slot) r item)
-      (ap (λ (n : ℕ). report_at (report_of (with_cycles s round.entries (with_calls round run)).reports m).slots n) (sym number) ∙ ap (λ (k : Learnt). slot_reported k g) (sym t.sees)) f
+  pub found : FoundFor (slot_told run slot) (shown_looks (slot_told (after_round s run round) slot)) (slot_reported (learnt t.by.outside) g) item
+  found = found_reported s marks run round legal c.stands c.reports t goes i slot l.slot_is (λ r. FoundFor (slot_told run slot) (shown_looks (slot_told after slot)) r item) (λ m low high. found_pushed s marks run round i slot item m legal flows l.used l.told draft_now low high)
 
   -- the turn doesn't hear that the stream is shut
   pub lent_open : OpenTurn s marks run round i t
@@ -133,17 +126,6 @@ module _ (s : Session) (marks : Marks) (scales : All (λ (x : Setting). x.scale 
         let same : item.generation ≡ g.generation = ap (λ (x : FastTrack). x.generation) l.item_is ∙ sym (greeted_same t.turn.ack run.normal.last (track_at run.normal.tracks i)).generation in
         heard_away ((learnt t.by.outside).own i) (slot_reported (learnt t.by.outside) g) g away (found.since.generation ∙ same) found.unshut;
   }
-
-  number : slot_number g ≡ slot
-  number = ap number_of ((greeted_alike t.turn.ack run.normal.last (track_at run.normal.tracks i)).slot ∙ l.slot_is)
-
-  found_few : shown_looks (slot_reported (learnt t.by.outside) g) ≤ shown_looks (slot_told after slot)
-  found_few =
-      let within = found_within s run round marks false t.turn legal c.stands.stored c.reports t.is goes c.stands.logged in
-      let m : ℕ = load_of (with_calls round run) t.turn in
-      subst (λ (r : SlotReport). shown_looks r ≤ shown_looks (slot_told after slot))
-      (ap (λ (n : ℕ). report_at (report_of (with_cycles s round.entries (with_calls round run)).reports m).slots n) (sym number) ∙ ap (λ (k : Learnt). slot_reported k g) (sym t.sees))
-      (found_most s marks run round i slot item m legal flows l.used l.told draft_now within.0 within.1)
 
   alive_by : (member ended : Bool) → (member && not ended) ≡ true → ended ≡ false
   alive_by true false e = refl
@@ -183,6 +165,5 @@ module _ (s : Session) (marks : Marks) (scales : All (λ (x : Setting). x.scale 
         found = found;
         open_is = lent_open;
         noted = noted_then;
-        most_found = found_few;
-        heard_of = (let a = found_few in let fulls = ap (λ (n : Counts). n.fulls) noted_then in let partials = ap (λ (n : Counts). n.partials) noted_then in omega (arith, a, fulls, partials));
+        heard_of = (let a = found.few in let fulls = ap (λ (n : Counts). n.fulls) noted_then in let partials = ap (λ (n : Counts). n.partials) noted_then in omega (arith, a, fulls, partials));
       }

@@ -5,7 +5,7 @@ use Rattle.af_enough_law.proofs.FastWords.{slot_told, frames_left_in}
 use Rattle.af_enough_law.proofs.NormalRounds.{TurnMade}
 use Rattle.af_enough_law.proofs.FastReports.{hears_some}
 use Rattle.af_enough_law.proofs.Following.{greeted_in}
-use Rattle.af_enough_law.proofs.FoundCounts.{shown_looks}
+use Rattle.af_enough_law.proofs.FastFound.{shown_looks}
 use Rattle.af_enough_law.proofs.Generations.{greeted_lent, greeted_same}
 use Rattle.af_enough_law.proofs.HeardFresh.{greeted_reported, hears_fresh}
 use Rattle.af_enough_law.proofs.LentFlows.{LentGone}

@@ -127,6 +127,7 @@ pub mod AwayKeeps
 pub mod SlotDrafts
 pub mod SlotReports
 pub mod RipeRounds
+pub mod FoundReports
 pub mod LeftFound
 pub mod Lookahead
 pub mod TurnLives
@@ -178,7 +179,6 @@ pub mod StartDone
 pub mod StartFirst
 pub mod RetriesGone
 pub mod HeardFresh
-pub mod FoundCounts
 pub mod LentHears
 pub mod StatesHold
 pub mod PipeKept

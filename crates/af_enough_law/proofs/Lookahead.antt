@@ -1,6 +1,6 @@
 -- A proxy that missed the meeting after the round in which it was detached comes home in the next one: what was done to its stream in the one is told by the history of the other.
 use Rattle.std.proofs.Common.{◌≡◌, ◌⊎◌, inl, inr, ℕ, ◌≤◌, ◌<◌, ◌&&◌, if◌then◌else◌, is_some, Bool, true, false, true≢false, All, Some, length, refl, sym, ap, ◌∙◌, subst, arith}
-use Rattle.af_enough_law.proofs.Common.{FastState, FastTrack, Home, LegalRound, Lent, Marks, NormalKept, RoundSeen, Run, Session, Setting, TrackKept, after_round, carries, observer_holds, is_home, is_returning, learnt, or_right, plays, setup_of, slot_number, slots, state_more, state_of, takes_part, told_at, track_at, track_count, turn_after}
+use Rattle.af_enough_law.proofs.Common.{FastState, FastTrack, Home, LegalRound, Lent, Marks, NormalKept, RoundSeen, Run, Session, Setting, TrackKept, after_round, carries, observer_holds, is_home, is_returning, learnt, met_after, or_right, plays, setup_of, slot_number, slots, state_more, state_of, takes_part, told_at, track_at, track_count, turn_after}
 use Rattle.af_enough_law.proofs.Acks.{KnowsAcked, turn_sees_ack}
 use Rattle.af_enough_law.proofs.Carried.{SessionCarried}
 use Rattle.af_enough_law.proofs.Drafts.{next_holder, holder_turned}
@@ -13,7 +13,7 @@ use Rattle.af_enough_law.proofs.FastFlows.{Later, later_both}
 use Rattle.af_enough_law.proofs.FastPolls.{round_states, turn_more}
 use Rattle.af_enough_law.proofs.FastRounds.{over}
 use Rattle.af_enough_law.proofs.Following.{greeted_in}
-use Rattle.af_enough_law.proofs.Foreseen.{Foreseen, KeepsTo, part_seen, seen_earlier}
+use Rattle.af_enough_law.proofs.Foreseen.{Foreseen, KeepsTo, keeps_to, part_seen, seen_earlier}
 use Rattle.af_enough_law.proofs.HomeRounds.{home_part}
 use Rattle.af_enough_law.proofs.LentRounds.{holds_by}
 use Rattle.af_enough_law.proofs.StatesHold.{pushed_last}
@@ -103,3 +103,17 @@ module _ (s : Session) (marks : Marks) (scales : All (λ (x : Setting). x.scale 
   -- a life that has ended stays so
   pub ended_then : (track_at run.normal.tracks i).life.ended ≡ true → (track_at (after_round s run round).normal.tracks i).life.ended ≡ true
   ended_then over = ap (λ (m : NormalKept). (track_at m.tracks i).life.ended) t.after ∙ over_stays (setup_of s) (learnt t.by.outside) run.normal t.turn i there (turn_runs s marks scales long run round legal c.stands) over
+
+-- what was done to the stream of a track whose life ends while its proxy is on its way is told by the history of the round, or by that of the next one if the proxy missed the meeting
+pub ended_seen : (s : Session) (marks : Marks) (scales : All (λ (x : Setting). x.scale ≤ 4096) (setup_of s).settings) (long : length (setup_of s).settings ≡ track_count s) (run : Run) (round next : RoundSeen) (t : TurnMade s marks run round) (i slot : ℕ) → i < length run.tracks → i < track_count s
+    → LegalRound false s marks run round → LegalRound false s marks (after_round s run round) next → SessionCarried s (after_round s run round) → KeepsTo run i → is_returning (track_at (after_round s run round).normal.tracks i).holder ≡ true → slot_number (track_at (after_round s run round).normal.tracks i) ≡ slot
+    → (takes_part s (met_after s run round) i ≡ false → Coming (after_round s run round) slot) → (track_at (after_round s run round).normal.tracks i).life.ended ≡ true → Foreseen (told_at (after_round s run round) i).stream
+ended_seen s marks scales long run round next t i slot low named legal legal_next session keeps returning number missed ended = by (takes_part s (met_after s run round) i) refl
+  where
+    by : (b : Bool) → takes_part s (met_after s run round) i ≡ b → Foreseen (told_at (after_round s run round) i).stream
+    by true part = part_seen false s marks run round t i low named legal keeps part
+    by false none =
+        let after : Run = after_round s run round in
+        let home = greeted_coming s marks scales long after next legal_next session i named slot (missed none) returning number in
+        let still = ended_then s marks scales long after next legal_next session i named ended in
+        seen_before s marks scales long after next legal_next session i named (keeps_to false s marks run round t i low named legal keeps) (home_then s marks scales long after next legal_next session i named home (silent (track_at (after_round s after next).normal.tracks i).life still))

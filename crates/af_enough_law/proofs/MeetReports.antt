@@ -1,15 +1,15 @@
 -- The report that a turn finds in the round in which the fast mixer comes to have a proxy: if it is of this attachment, it says that the server is open.
-use Rattle.std.proofs.Common.{◌≡◌, ◌⊎◌, inl, inr, ℕ, ◌≤◌, ◌<◌, ◌||◌, if◌then◌else◌, is_some, Bool, true, false, true≢false, Option, Some, None, List, [], ◌∷◌, ◌++◌, length, refl, sym, ap, ◌∙◌, subst, arith, append_assoc, append-nil}
-use Rattle.af_enough_law.proofs.Common.{ClientEvent, EntrySeen, FastState, FastTrack, LegalEntries, LegalEntry, Listed, Marks, Report, Run, ServerEvent, Session, Shape, SlotReport, TrackTold, carried, carries, counted_look, cycle_frames, entry_slot, is_shown, known_of, last_report, last_used, listed, mixed_track, no_slot, played, polled_known, polled_pushed, polled_waits, report_at, server_kept, server_list, slot_playing, slot_of, slot_report, slots, state_at, state_for, state_of, stream_of, told_at, with_cycle, with_cycles, with_looks, with_mix, with_poll}
+use Rattle.std.proofs.Common.{◌≡◌, ◌⊎◌, inl, inr, ℕ, ◌≤◌, ◌<◌, ◌||◌, if◌then◌else◌, is_some, Bool, true, false, true≢false, Option, Some, None, List, [], ◌∷◌, ◌++◌, length, refl, sym, ap, ◌∙◌, subst, arith}
+use Rattle.af_enough_law.proofs.Common.{ClientEvent, EntrySeen, FastState, FastTrack, LegalEntries, LegalEntry, Listed, Marks, Run, ServerEvent, Session, Shape, SlotReport, TrackTold, carried, carries, counted_look, cycle_frames, entry_slot, is_shown, known_of, last_used, listed, mixed_track, no_slot, played, polled_known, polled_pushed, polled_waits, report_at, server_kept, server_list, slot_playing, slot_of, slot_report, slots, state_at, state_for, state_of, stream_of, told_at, with_cycle, with_cycles, with_looks, with_mix, with_poll}
 use Rattle.af_enough_law.proofs.Basics.{state_there}
 use Rattle.af_runs.specs.Runs.{shows_slot}
 use Rattle.af_enough_law.proofs.FastWords.{AllUse, slot_told, HasItem}
 use Rattle.af_enough_law.proofs.Commanding.{le_cases}
 use Rattle.af_enough_law.proofs.FastFlows.{cycles_later}
-use Rattle.af_enough_law.proofs.FastFound.{adds_one, listed_played}
-use Rattle.af_enough_law.proofs.FastReports.{slot_counts, last_more}
+use Rattle.af_enough_law.proofs.FastFound.{adds_more, listed_played}
+use Rattle.af_enough_law.proofs.FastReports.{slot_counts}
 use Rattle.af_enough_law.proofs.FastShows.{Setting}
-use Rattle.af_enough_law.proofs.FastSince.{Adds}
+use Rattle.af_enough_law.proofs.FastSince.{Adds, adds_none}
 use Rattle.af_enough_law.proofs.FastSteps.{cycle_states, cycle_track, mixed_stream, slot_only, cycle_draft}
 use Rattle.af_enough_law.proofs.LeftEntries.{IsOut, slot_none, track_still, shows_nothing, HasOrOut}
 use Rattle.af_enough_law.proofs.StreamCalm.{IsQuiet, LiesIn, lies_earlier, entries_quiet}
@@ -171,7 +171,7 @@ module _ (s : Session) (marks : Marks) (track slot : ℕ) (item : FastTrack) (so
 
   pub met_entries : (high : ℕ) (es : List EntrySeen) (run told : Run) → KnowsMet run → track < length run.tracks → AllUse n high es → high ≤ length run.states → LegalEntries s marks run es → LiesIn k cs all h (told_at (with_cycles s es run) track).stream
       → MeetStep s track slot item x d n k run told → MetEnd run told es
-  met_entries high [] run told knows there uses top legal lies step = record { step = step; adds = record { news = []; whole = sym (append-nil told.reports); each = tt } }
+  met_entries high [] run told knows there uses top legal lies step = record { step = step; adds = adds_none (λ r. SaysOpenOf item (report_at r.slots slot)) told }
   met_entries high (e ∷ es) run told knows there uses top legal lies step =
       let next : Run = with_cycle s run e in
       let later : Run = with_cycle s told e in
@@ -183,13 +183,4 @@ module _ (s : Session) (marks : Marks) (track slot : ℕ) (item : FastTrack) (so
       let long = ap length states in
       let knows' : KnowsMet next = ((let a = knows.0 in omega (arith, a, long)), ap (λ l. state_at (cycle_frames s) l n) states ∙ knows.1, λ m y above at. knows.2 m y above (ap (λ l. state_of l m) (sym states) ∙ at)) in
       let rest = met_entries high es next later knows' there' uses.2 (omega (arith, long, top)) legal.1 lies now in
-      let added = adds_one s told e in
-      let at : slot_told later slot ≡ report_at added.report.slots slot = ap (λ (l : List Report). report_at (last_report l).slots slot) added.whole ∙ ap (λ (r : Report). report_at r.slots slot) (last_more told.reports added.report) in
-      record {
-        step = rest.step;
-        adds = record {
-          news = added.report ∷ rest.adds.news;
-          whole = rest.adds.whole ∙ ap (λ l. l ++ rest.adds.news) added.whole ∙ append_assoc told.reports (added.report ∷ []) rest.adds.news;
-          each = (subst (SaysOpenOf item) at now.says, rest.adds.each);
-        };
-      }
+      record { step = rest.step; adds = adds_more s slot (SaysOpenOf item) told e es now.says rest.adds }

@@ -1,17 +1,16 @@
 -- What the reports of a round say of a proxy that the fast mixer has, or comes to have in it.
-use Rattle.std.proofs.Common.{◌≡◌, ℕ, ◌≤◌, ◌<◌, is_some, true, false, true≢false, Some, List, [], ◌∷◌, ◌++◌, length, refl, sym, ap, ◌∙◌, subst, arith, take-append-drop, unwrap_or, Option, length-append}
-use Rattle.af_enough_law.proofs.Common.{ClientEvent, EntrySeen, FastState, FastTrack, LegalEntries, LegalRound, Marks, NormalKept, RoundSeen, Run, ServerEvent, Session, Shape, after_round, after_turn, all_played, before_turn, calls_states, carries, cycle_frames, early_count, early_of, fast_ended, found_in, initial, initial_none, known_of, late_of, listed, met_after, polled_pushed, report_at, report_of, server_kept, server_list, slot_of, slots, state_at, state_beyond, state_more, state_of, told_at, with_calls, with_cycle, with_cycles}
+use Rattle.std.proofs.Common.{◌≡◌, ℕ, ◌≤◌, ◌<◌, is_some, true, false, true≢false, Some, List, [], ◌∷◌, ◌++◌, length, refl, sym, ap, ◌∙◌, subst, arith, unwrap_or, Option, length-append}
+use Rattle.af_enough_law.proofs.Common.{ClientEvent, EntrySeen, FastState, FastTrack, LegalEntries, LegalRound, Marks, NormalKept, RoundSeen, Run, ServerEvent, Session, Shape, after_round, after_turn, before_turn, calls_states, carries, cycle_frames, early_of, fast_ended, found_in, initial, initial_none, known_of, late_of, listed, polled_pushed, report_at, report_of, server_kept, server_list, slot_of, slots, state_at, state_beyond, state_more, state_of, told_at, with_calls, with_cycle, with_cycles}
 use Rattle.af_enough_law.proofs.FastWords.{KnowsStates, slot_told, HasItem}
 use Rattle.af_enough_law.proofs.FastFlows.{cycles_later}
-use Rattle.af_enough_law.proofs.FastFound.{calls_current}
-use Rattle.af_enough_law.proofs.FastReports.{SameReports, calls_same, turned_same, loaded_same, met_same, ends_same, same_both, slot_same}
+use Rattle.af_enough_law.proofs.FastFound.{adds_round, calls_current}
+use Rattle.af_enough_law.proofs.FastReports.{SameReports, calls_same, turned_same, rest_same, slot_same}
 use Rattle.af_enough_law.proofs.FastRounds.{over}
 use Rattle.af_enough_law.proofs.FastPolls.{round_states, turn_more, parts_use, fast_parts}
 use Rattle.af_enough_law.proofs.FastShows.{Setting}
-use Rattle.af_enough_law.proofs.FastSince.{Adds, since_number}
+use Rattle.af_enough_law.proofs.FastSince.{since_number}
 use Rattle.af_enough_law.proofs.FastSteps.{cycle_states, entry_pushed}
 use Rattle.af_enough_law.proofs.Foreseen.{Foreseen}
-use Rattle.af_enough_law.proofs.LeftFound.{cycles_append, adds_both}
 use Rattle.af_enough_law.proofs.MeetReports.{SaysOpenOf, MeetStep, KnowsMet, met_entries, NamesTrack, says_next}
 use Rattle.af_enough_law.proofs.RoundCalm.{quiet_only, legal_parts, lie_through}
 use Rattle.af_enough_law.proofs.StreamCalm.{IsQuiet, LiesIn, lies_earlier, entries_quiet}
@@ -84,10 +83,7 @@ meets_open s marks run round track slot item legal f out lent seen m below high 
     let knows2 : KnowsMet s marks track slot item f.some f.low f.is x f.named d f.draft n k seen.list seen.events seen.setting turn =
     (omega (arith, many, more), here, λ m y above at. out m y above (ap (λ l. state_of l m) (round_states s run round) ∙ at)) in
     let e2 = met_entries s marks track slot item f.some f.low f.is x f.named d f.draft n k seen.list seen.events seen.setting top (late_of run round) turn before knows2 o.last uses.late (omega arith) parts.late lies.late second in
-    let cut : early_of run round ++ late_of run round ≡ round.entries = take-append-drop (early_count run round) round.entries in
-    let all_is : with_cycles s (late_of run round) before ≡ with_cycles s round.entries called = sym (cycles_append s (early_of run round) (late_of run round) called) ∙ ap (λ es. with_cycles s es called) cut in
-    let adds : Adds called (with_cycles s round.entries called) (λ r. SaysOpenOf item (report_at r.slots slot)) =
-    subst (λ (r : Run). Adds called r (λ r. SaysOpenOf item (report_at r.slots slot))) all_is (adds_both (λ r. SaysOpenOf item (report_at r.slots slot)) called before (with_cycles s (late_of run round) before) e1.adds e2.adds) in
+    let adds = adds_round s run round (λ r. SaysOpenOf item (report_at r.slots slot)) e1.adds e2.adds in
     since_number called (with_cycles s round.entries called) (λ r. SaysOpenOf item (report_at r.slots slot)) m adds says1 (let a = ap length c1.reports in omega (arith, a, below)) high
 
 -- ## The last report of a round
@@ -139,9 +135,8 @@ module _ (s : Session) (marks : Marks) (track slot : ℕ) (item : FastTrack) (lo
       quiet_only s marks track k seen.list seen.events seen.setting (told_at run track).stream (told_at called track).stream o.calls (subst (λ (z : Shape). IsQuiet z (server_list (told_at run track).stream)) shape0 quiet) in
       let c1 : SameReports run called = calls_same round run in
       let c2 : SameReports before turn = turned_same s (found_in s run round) round.turn before in
-      let c3 : SameReports late after = same_both late (all_played s run round) after (loaded_same round.turn late) (same_both (all_played s run round) (met_after s run round) after (met_same s (all_played s run round)) (ends_same (met_after s run round))) in
       let first : SaysOpenOf item (slot_told before slot) =
       said_entries k seen.list seen.events seen.setting (early_of run round) called (λ m z at. have m z (ap (λ l. state_of l m) (sym (calls_states round run)) ∙ at)) o.first parts.0 lies.early quiet1 (subst (SaysOpenOf item) (sym (slot_same run called slot c1)) says) in
       let last : SaysOpenOf item (slot_told late slot) =
       said_entries k seen.list seen.events seen.setting (late_of run round) turn (λ m z at. later m z (ap (λ l. state_of l m) (round_states s run round) ∙ at)) o.last parts.1 lies.late turned (subst (SaysOpenOf item) (sym (slot_same before turn slot c2)) first) in
-      subst (SaysOpenOf item) (sym (slot_same late after slot c3)) last
+      subst (SaysOpenOf item) (sym (slot_same late after slot (rest_same s run round))) last

@@ -9,7 +9,7 @@ use Rattle.af_enough_law.specs.Seen.{frames_taken}
 use Rattle.af_enough_law.proofs.Fair.{calm_drops}
 use Rattle.af_enough_law.proofs.FastConsumed.{told_open, open_consumed}
 use Rattle.af_enough_law.proofs.FastFlows.{Later}
-use Rattle.af_enough_law.proofs.FastFound.{FoundFor}
+use Rattle.af_enough_law.proofs.FastFound.{FoundFor, shown_looks}
 use Rattle.af_enough_law.proofs.FastRounds.{over}
 use Rattle.af_enough_law.proofs.Following.{greeted_in}
 use Rattle.af_enough_law.proofs.Foreseen.{Foreseen, early_quiet}
@@ -39,7 +39,7 @@ elsewhere_is h r g away same =
 
 -- A turn hears by the report what was taken of a lent track before the round
 pub lent_hears : (s : Session) (marks : Marks) (run : Run) (round : RoundSeen) (i slot : ℕ) (item : FastTrack) (t : TurnMade s marks run round) → LentCarried s run i slot item → IsOpen (told_at run i).stream
-    → FoundFor (slot_told run slot) (slot_reported (learnt t.by.outside) (greeted_in run.normal t.turn i)) item → RoundHears s marks run round i t
+    → FoundFor (slot_told run slot) (shown_looks (slot_told (after_round s run round) slot)) (slot_reported (learnt t.by.outside) (greeted_in run.normal t.turn i)) item → RoundHears s marks run round i t
 lent_hears s marks run round i slot item t l opens found =
     let g : TrackKept = greeted_in run.normal t.turn i in
     let r : SlotReport = slot_reported (learnt t.by.outside) g in

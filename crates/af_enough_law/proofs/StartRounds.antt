@@ -1,6 +1,6 @@
 -- The rounds in which a proxy is lent and on its way: what the turns hear of it, and what they leave.
 use Rattle.std.proofs.Common.{◌≡◌, ℕ, ◌+◌, ◌≤◌, ◌<◌, unwrap_or, if◌then◌else◌, Bool, true, false, All, Option, length, refl, sym, ap, ◌∙◌, subst, arith, inl, is_some, Some}
-use Rattle.af_enough_law.proofs.Common.{FastState, FastTrack, Heard, Learnt, LegalRound, Lent, Marks, NormalKept, RoundSeen, Run, Session, Setting, Shape, SlotReport, TrackKept, Turn, after_round, after_turn, before_turn, carries, early_of, heard, heard_at_home, heard_by, heard_elsewhere, is_home, late_of, learnt, load_of, number_of, report_at, report_of, server_list, setup_of, slot_of, slot_reported, slots, state_of, told_at, track_at, track_count, track_in, turn_after, with_calls, with_cycles}
+use Rattle.af_enough_law.proofs.Common.{FastState, FastTrack, Heard, LegalRound, Lent, Marks, NormalKept, RoundSeen, Run, Session, Setting, Shape, SlotReport, TrackKept, Turn, after_round, after_turn, before_turn, carries, early_of, heard, heard_at_home, heard_by, heard_elsewhere, is_home, late_of, learnt, number_of, server_list, setup_of, slot_of, slot_reported, slots, state_of, told_at, track_at, track_count, track_in, turn_after, with_calls, with_cycles}
 use Rattle.af_enough_law.proofs.Basics.{stays_home}
 use Rattle.af_enough_law.proofs.Carried.{SessionStands}
 use Rattle.af_enough_law.proofs.Courses.{none_shut}
@@ -10,10 +10,10 @@ use Rattle.af_enough_law.proofs.NormalRounds.{TurnMade}
 use Rattle.af_enough_law.proofs.AdoptRounds.{away_heard}
 use Rattle.af_enough_law.proofs.AwayKeeps.{StaysOpen, away_turn, looks_open}
 use Rattle.af_enough_law.proofs.AwayRounds.{AwayTurn}
-use Rattle.af_enough_law.proofs.EntryCounts.{found_within}
+use Rattle.af_enough_law.proofs.FoundReports.{found_reported}
 use Rattle.af_enough_law.proofs.FastRounds.{over}
 use Rattle.af_enough_law.proofs.RunTracks.{calls_long as calls_length, cycles_long}
-use Rattle.af_enough_law.proofs.Following.{greeted_in, greeted_alike}
+use Rattle.af_enough_law.proofs.Following.{greeted_in}
 use Rattle.af_enough_law.proofs.Foreseen.{Foreseen, early_quiet, home_unshut}
 use Rattle.af_enough_law.proofs.Generations.{Attached, greeted_lent, greeted_same}
 use Rattle.af_enough_law.proofs.HomeRounds.{IsNamed}
@@ -205,10 +205,4 @@ module _ (s : Session) (marks : Marks) (scales : All (λ (x : Setting). x.scale 
 
           report : (slot_reported (learnt t.by.outside) g).generation ≡ g.generation → (slot_reported (learnt t.by.outside) g).shut ≡ false
           report e =
-              let within = found_within s run round marks false t.turn legal c.stored reports t.is goes c.logged in
-              let m : ℕ = load_of (with_calls round run) t.turn in
-              let number = ap number_of ((greeted_alike t.turn.ack run.normal.last (track_at run.normal.tracks i)).slot ∙ u.lending.slot_is) in
-              let found : SaysOpenOf item (report_at (report_of (with_cycles s round.entries (with_calls round run)).reports m).slots slot) = meets_open s marks run round i slot item legal meeting pushed_has turn_adds seen m within.0 within.1 in
-              let here : report_at (report_of (with_cycles s round.entries (with_calls round run)).reports m).slots slot ≡ slot_reported (learnt t.by.outside) g =
-              ap (λ (n : ℕ). report_at (report_of (with_cycles s round.entries (with_calls round run)).reports m).slots n) (sym number) ∙ ap (λ (k : Learnt). slot_reported k g) (sym t.sees) in
-              subst (SaysOpenOf item) here found (e ∙ alike.generation ∙ sym (ap (λ (x : FastTrack). x.generation) u.lending.item_is))
+              found_reported s marks run round legal c reports t goes i slot u.lending.slot_is (SaysOpenOf item) (meets_open s marks run round i slot item legal meeting pushed_has turn_adds seen) (e ∙ alike.generation ∙ sym (ap (λ (x : FastTrack). x.generation) u.lending.item_is))

@@ -1,15 +1,14 @@
 -- A round whose states have nothing of a track leaves what the reports say of its slot.
-use Rattle.std.proofs.Common.{◌≡◌, ℕ, ◌≤◌, ◌<◌, false, Option, Some, None, List, [], ◌∷◌, ◌++◌, length, refl, sym, ap, ◌∙◌, subst, arith, append_assoc, append-nil}
-use Rattle.af_enough_law.proofs.Common.{EntrySeen, FastState, LegalEntries, LegalEntry, LegalRound, Marks, Report, RoundSeen, Run, Session, SlotReport, after_round, after_turn, all_played, before_turn, calls_states, carries, early_count, early_of, entry_slot, fast_ended, found_in, is_shown, last_report, late_of, met_after, polled_known, report_at, report_of, slots, state_for, state_of, take-append-drop, with_calls, with_cycle, with_cycles, with_looks, with_mix, with_poll}
+use Rattle.std.proofs.Common.{◌≡◌, ℕ, ◌≤◌, ◌<◌, false, Option, Some, None, List, [], ◌∷◌, ◌++◌, length, refl, sym, ap, ◌∙◌, subst, arith}
+use Rattle.af_enough_law.proofs.Common.{EntrySeen, FastState, LegalEntries, LegalEntry, LegalRound, Marks, RoundSeen, Run, Session, SlotReport, after_round, after_turn, before_turn, calls_states, carries, early_of, entry_slot, fast_ended, found_in, is_shown, last_report, late_of, polled_known, report_at, report_of, slots, state_for, state_of, with_calls, with_cycle, with_cycles, with_looks, with_mix, with_poll}
 use Rattle.af_enough_law.proofs.Basics.{state_there}
 use Rattle.af_enough_law.proofs.FastWords.{AllUse, KnowsStates, slot_told}
-use Rattle.af_enough_law.proofs.FastFound.{adds_one}
+use Rattle.af_enough_law.proofs.FastFound.{adds_more, adds_round}
 use Rattle.af_enough_law.proofs.FastPolls.{before_states, round_states, fast_parts, parts_use}
-use Rattle.af_enough_law.proofs.FastReports.{slot_counts, last_more, calls_same, turned_same, loaded_same, met_same, ends_same, slot_same}
-use Rattle.af_enough_law.proofs.FastSince.{Adds, since_number}
+use Rattle.af_enough_law.proofs.FastReports.{slot_counts, calls_same, turned_same, rest_same, slot_same}
+use Rattle.af_enough_law.proofs.FastSince.{Adds, adds_none, since_number}
 use Rattle.af_enough_law.proofs.FastSteps.{cycle_states}
 use Rattle.af_enough_law.proofs.LeftEntries.{IsOut, next_kept, next_unshown, shows_nothing}
-use Rattle.af_enough_law.proofs.LeftFound.{cycles_append, adds_both}
 
 -- the states from this number on have nothing of the track
 abbrev pub AllOut : ℕ → ℕ → ℕ → Run → Type 0
@@ -46,7 +45,7 @@ module _ (s : Session) (marks : Marks) (track slot n : ℕ) (some : 0 < slot) (l
   out_next run e out m y high is = out m y high (ap (λ l. state_of l m) (sym (cycle_states s run e)) ∙ is)
 
   untouched : (high : ℕ) (es : List EntrySeen) (run told : Run) → AllOut slot track n run → AllOut slot track n told → AllUse n high es → high ≤ length run.states → LegalEntries s marks run es → Untouched run told es
-  untouched high [] run told out out_told uses top legal = record { actual = refl; found = refl; adds = record { news = []; whole = sym (append-nil told.reports); each = tt } }
+  untouched high [] run told out out_told uses top legal = record { actual = refl; found = refl; adds = adds_none (λ r. report_at r.slots slot ≡ slot_told told slot) told }
   untouched high (e ∷ es) run told out out_told uses top legal =
       let next : Run = with_cycle s run e in
       let later : Run = with_cycle s told e in
@@ -55,14 +54,8 @@ module _ (s : Session) (marks : Marks) (track slot n : ℕ) (some : 0 < slot) (l
       let now = entry_kept run e out uses.0 pushed in
       let found = found_kept run told e out out_told legal.0 uses.0 pushed in
       let rest = untouched high es next later (out_next run e out) (out_next told e out_told) uses.2 (let a = ap length (cycle_states s run e) in omega (arith, a, top)) legal.1 in
-      let added = adds_one s told e in
-      let at : slot_told later slot ≡ report_at added.report.slots slot = ap (λ (l : List Report). report_at (last_report l).slots slot) added.whole ∙ ap (λ (r : Report). report_at r.slots slot) (last_more told.reports added.report) in
       let more : Adds later (with_cycles s es later) (λ r. report_at r.slots slot ≡ slot_told told slot) = subst (λ (x : SlotReport). Adds later (with_cycles s es later) (λ r. report_at r.slots slot ≡ x)) found rest.adds in
-      record {
-        actual = rest.actual ∙ now;
-        found = rest.found ∙ found;
-        adds = record { news = added.report ∷ more.news; whole = more.whole ∙ ap (λ l. l ++ more.news) added.whole ∙ append_assoc told.reports (added.report ∷ []) more.news; each = (sym at ∙ found, more.each) };
-      }
+      record { actual = rest.actual ∙ now; found = rest.found ∙ found; adds = adds_more s slot (λ r. r ≡ slot_told told slot) told e es found more }
 
 -- what a round leaves of the reports of a slot whose states have nothing of the track
 pub record SameSlot (s : Session) (run : Run) (round : RoundSeen) (slot : ℕ) : Type 0 where
@@ -88,15 +81,10 @@ slot_untouched s marks run round track slot legal going knows some low one out o
     let c2 = turned_same s (found_in s run round) round.turn before in
     let first : slot_told called slot ≡ slot_told run slot = slot_same run called slot c1 in
     let early : slot_told before slot ≡ slot_told run slot = e1.actual ∙ first in
-    let all : Run = all_played s run round in
     let a1 : Adds called before (λ r. report_at r.slots slot ≡ slot_told run slot) = subst (λ (x : SlotReport). Adds called before (λ r. report_at r.slots slot ≡ x)) first e1.adds in
     let a2 : Adds before (with_cycles s (late_of run round) before) (λ r. report_at r.slots slot ≡ slot_told run slot) = subst (λ (x : SlotReport). Adds before (with_cycles s (late_of run round) before) (λ r. report_at r.slots slot ≡ x)) early e2.adds in
-    let cut : early_of run round ++ late_of run round ≡ round.entries = take-append-drop (early_count run round) round.entries in
-    let all_is : with_cycles s (late_of run round) before ≡ with_cycles s round.entries called = sym (cycles_append s (early_of run round) (late_of run round) called) ∙ ap (λ es. with_cycles s es called) cut in
-    let adds : Adds called (with_cycles s round.entries called) (λ r. report_at r.slots slot ≡ slot_told run slot) =
-    subst (λ (r : Run). Adds called r (λ r. report_at r.slots slot ≡ slot_told run slot)) all_is (adds_both (λ r. report_at r.slots slot ≡ slot_told run slot) called before (with_cycles s (late_of run round) before) a1 a2) in
+    let adds = adds_round s run round (λ r. report_at r.slots slot ≡ slot_told run slot) a1 a2 in
     record {
       found = λ m lo hi. since_number called (with_cycles s round.entries called) (λ r. report_at r.slots slot ≡ slot_told run slot) m adds first (let a = ap length c1.reports in omega (arith, a, lo)) hi;
-      last = slot_same (met_after s run round) (after_round s run round) slot (ends_same (met_after s run round)) ∙ slot_same all (met_after s run round) slot (met_same s all) ∙ slot_same late all slot (loaded_same round.turn late)
-          ∙ e2.actual ∙ slot_same before turn slot c2 ∙ early;
+      last = slot_same late (after_round s run round) slot (rest_same s run round) ∙ e2.actual ∙ slot_same before turn slot c2 ∙ early;
     }

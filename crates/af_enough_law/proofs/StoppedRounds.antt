@@ -1,6 +1,6 @@
 -- A round of a stopped track: its turn doesn't hear that its stream is shut, wherever its proxy is, and leaves the proxy in such a place. What isn't told by the history of this round is told by that of the next one.
 use Rattle.std.proofs.Common.{◌≡◌, ◌⊎◌, inl, inr, ℕ, ◌≤◌, ◌<◌, ◌==◌, is_some, Bool, true, false, true≢false, All, Some, ◌++◌, length, length-append, refl, sym, ap, ◌∙◌, subst, arith}
-use Rattle.af_enough_law.proofs.Common.{FastState, FastTrack, Home, Learnt, LegalRound, Marks, NormalKept, Returning, RoundSeen, Run, Session, Setting, SlotReport, TrackKept, after_round, carries, cycle_frames, ends_part, heard, is_home, is_returning, learnt, load_of, met_after, number_of, plays, report_at, report_of, setup_of, slot_number, slot_reported, slots, state_beyond, state_more, state_of, takes_part, told_at, track_at, track_count, turn_after, turn_len, with_calls, with_cycles}
+use Rattle.af_enough_law.proofs.Common.{FastState, FastTrack, Home, LegalRound, Marks, NormalKept, Returning, RoundSeen, Run, Session, Setting, SlotReport, TrackKept, after_round, carries, cycle_frames, ends_part, heard, is_home, is_returning, learnt, met_after, number_of, plays, setup_of, slot_reported, slots, state_beyond, state_more, state_of, takes_part, told_at, track_at, track_count, turn_after, turn_len}
 use Rattle.af_enough_law.proofs.Basics.{not_over, some_is, stays_home}
 use Rattle.af_enough_law.proofs.Acks.{KnowsAcked, turn_sees_ack}
 use Rattle.af_enough_law.proofs.Carried.{SessionCarried}
@@ -11,10 +11,10 @@ use Rattle.af_enough_law.proofs.NormalRounds.{TurnMade}
 use Rattle.af_enough_law.proofs.CommandsGo.{OpenTurn}
 use Rattle.af_enough_law.proofs.Commanding.{le_cases}
 use Rattle.af_enough_law.proofs.EndRounds.{order_round}
-use Rattle.af_enough_law.proofs.EntryCounts.{found_within}
+use Rattle.af_enough_law.proofs.FoundReports.{found_reported}
 use Rattle.af_enough_law.proofs.FastPolls.{round_states, turn_more}
-use Rattle.af_enough_law.proofs.Following.{greeted_in, greeted_alike}
-use Rattle.af_enough_law.proofs.Foreseen.{Foreseen, KeepsTo, keeps_to, part_seen, seen_earlier}
+use Rattle.af_enough_law.proofs.Following.{greeted_in}
+use Rattle.af_enough_law.proofs.Foreseen.{Foreseen, KeepsTo, part_seen, seen_earlier}
 use Rattle.af_enough_law.proofs.Generations.{greeted_same, attached_away}
 use Rattle.af_enough_law.proofs.StatesHold.{beyond_draft}
 use Rattle.af_enough_law.proofs.LeftEntries.{IsOut, SaysOpen}
@@ -22,7 +22,7 @@ use Rattle.af_enough_law.proofs.LeftFound.{Flowing, FoundOpen, found_open}
 use Rattle.af_enough_law.proofs.LeftRounds.{draft_out}
 use Rattle.af_enough_law.proofs.LentRounds.{heard_away}
 use Rattle.af_enough_law.proofs.LentTurns.{turn_leaves}
-use Rattle.af_enough_law.proofs.Lookahead.{Coming, missed, greeted_coming, home_then, seen_before, ended_then, round_later}
+use Rattle.af_enough_law.proofs.Lookahead.{ended_seen, Coming, missed, greeted_coming, home_then, round_later}
 use Rattle.af_enough_law.proofs.SessionRounds.{turn_of, turn_runs, push_of, session_carried}
 use Rattle.af_enough_law.proofs.Slots.{course_opened, slot_stays}
 use Rattle.af_enough_law.proofs.StoppedPlaces.{Place, at_home, comes, waits, unpushed, home_is, greeted_or, greeted_stays}
@@ -73,9 +73,6 @@ module _ (s : Session) (marks : Marks) (scales : All (λ (x : Setting). x.scale 
   -- the track's slot stays
   pub stopped_slot : (track_at after.normal.tracks i).slot ≡ Some slot
   stopped_slot = ap (λ (m : NormalKept). (track_at m.tracks i).slot) t.after ∙ slot_turned
-
-  number_g : slot_number g ≡ slot
-  number_g = ap number_of ((greeted_alike t.turn.ack run.normal.last (track_at run.normal.tracks i)).slot ∙ slot_is)
 
   made : PushMade run.normal after.normal t.turn.push
   made = push_of s marks scales long run round legal c.stands
@@ -142,11 +139,7 @@ module _ (s : Session) (marks : Marks) (scales : All (λ (x : Setting). x.scale 
       kept = slot_untouched s marks run round i slot legal c.stands.going c.states some_slot low_slot some all_after all_before
 
       report : slot_reported (learnt t.by.outside) g ≡ slot_told run slot
-      report =
-          let within = found_within s run round marks false t.turn legal c.stands.stored c.reports t.is runs c.stands.logged in
-          let m : ℕ = load_of (with_calls round run) t.turn in
-          ap (λ (k : Learnt). slot_reported k g) t.sees
-          ∙ ap (λ (j : ℕ). report_at (report_of (with_cycles s round.entries (with_calls round run)).reports m).slots j) number_g ∙ kept.found m within.0 within.1
+      report = found_reported s marks run round legal c.stands c.reports t runs i slot slot_is (λ r. r ≡ slot_told run slot) kept.found
 
       waits_open : OpenTurn s marks run round i t
       waits_open = record {
@@ -169,9 +162,6 @@ module _ (s : Session) (marks : Marks) (scales : All (λ (x : Setting). x.scale 
 
       keeps : KeepsTo run i
       keeps = record { few = z.few; spelled = z.commands.spelled; pokeless = z.commands.pokeless; flushless = z.commands.flushless }
-
-      keeps_then : KeepsTo after i
-      keeps_then = keeps_to false s marks run round t i low named legal keeps
 
       there_then : i < length after.normal.tracks
       there_then = let a = ap (λ (m : NormalKept). length m.tracks) t.after in let b = turn_len (setup_of s) (learnt t.by.outside) run.normal t.turn in let d = there in omega (arith, a, b, d)
@@ -196,31 +186,13 @@ module _ (s : Session) (marks : Marks) (scales : All (λ (x : Setting). x.scale 
       }
 
       missing : takes_part s (met_after s run round) i ≡ false → Coming after slot
-      missing none = record { acked = (missed_by none).acked; free = ap (λ (x : FastState). carries x slot) (made.done free).1 ∙ out_then.free }
-        where
-          missed_by : takes_part s (met_after s run round) i ≡ false → Coming after slot
-          missed_by none = missed s marks scales long run round legal c i slot item last low_slot item_is some (first some) out_then.free (ends_part s (met_after s run round) i ∙ none)
-
-      ended_seen : (track_at after.normal.tracks i).life.ended ≡ true → Foreseen (told_at after i).stream
-      ended_seen ended = by (takes_part s (met_after s run round) i) refl
-        where
-          by : (b : Bool) → takes_part s (met_after s run round) i ≡ b → Foreseen (told_at after i).stream
-          by true part = part_seen false s marks run round t i low named legal keeps part
-          by false none =
-              let home = greeted_coming s marks scales long after next legal_next session i named slot (missing none) (ap is_returning back_then) (ap number_of stopped_slot) in
-              let still = ended_then s marks scales long after next legal_next session i named ended in
-              seen_before s marks scales long after next legal_next session i named keeps_then (home_then s marks scales long after next legal_next session i named home (silent (track_at (after_round s after next).normal.tracks i).life still))
+      missing none = missed s marks scales long run round legal c i slot item last low_slot item_is some (first some) out_then.free (ends_part s (met_after s run round) i ∙ none)
 
       open_by : Foreseen (told_at after i).stream → FoundOpen s run round i slot item
       open_by seen = found_open s marks run round i slot item legal (flowing seen) pushed_out (turn_leaves s marks run round t i low there runs away (ap is_some slot_turned)) seen
 
       report_open : Foreseen (told_at after i).stream → SaysOpen (slot_reported (learnt t.by.outside) g) item
-      report_open seen =
-          let within = found_within s run round marks false t.turn legal c.stands.stored c.reports t.is runs c.stands.logged in
-          let m : ℕ = load_of (with_calls round run) t.turn in
-          subst (λ (r : SlotReport). SaysOpen r item)
-          (ap (λ (j : ℕ). report_at (report_of (with_cycles s round.entries (with_calls round run)).reports m).slots j) (sym number_g) ∙ ap (λ (k : Learnt). slot_reported k g) (sym t.sees))
-          ((open_by seen).found m within.0 within.1)
+      report_open seen = found_reported s marks run round legal c.stands c.reports t runs i slot slot_is (λ r. SaysOpen r item) (open_by seen).found
 
       unpushed_open : OpenTurn s marks run round i t
       unpushed_open = record { low = low; named = named; there = there; lawful = lawful; runs = runs; unshut = λ alive. by alive (heard (learnt t.by.outside) i g).known.shut refl }
@@ -232,7 +204,7 @@ module _ (s : Session) (marks : Marks) (scales : All (λ (x : Setting). x.scale 
           by alive false is = is
           by alive true is =
               let ended = ap (λ (m : NormalKept). (track_at m.tracks i).life.ended) t.after ∙ shut_turned (setup_of s) (learnt t.by.outside) run.normal t.turn i there runs alive is in
-              absurd (true≢false (sym is ∙ heard_open (ended_seen ended)))
+              absurd (true≢false (sym is ∙ heard_open (ended_seen s marks scales long run round next t i slot low named legal legal_next session keeps (ap is_returning back_then) (ap number_of stopped_slot) missing ended)))
 
       unpushed_then : Place s after i slot item
       unpushed_then = by (takes_part s (met_after s run round) i) refl
