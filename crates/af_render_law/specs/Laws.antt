@@ -13,7 +13,8 @@ use Rattle.af_told_law.specs.Leads.{InStep, LeadAway}
 use Rattle.af_session.specs.Together.{SessionState}
 use Rattle.af_turn_law.specs.Acting.{FindsShutUnseen}
 use Rattle.af_told_law.specs.Tells.{Tells}
-use Rattle.af_told_law.specs.Deeds.{Deeds, SawOwnBy, tame_marks}
+use Rattle.af_told_law.specs.Deeds.{Deeds, SawOwnBy}
+use Rattle.af_told_law.proofs.EndsKept.{tame_marks}
 
 -- a round as the journal has it, if these entries are left
 abbrev pub round_of : RoundNoted → List EntrySeen → RoundSeen

@@ -5,7 +5,11 @@ use Rattle.af_base.specs.declared.event.ServerEvent.TheVariants as server
 use Rattle.af_base.specs.declared.log.Cycle.TheVariants as cycle
 use Rattle.af_model.specs.Cycles.{is_exit}
 use Rattle.af_runs.specs.Runs.{slot_playing}
-use Rattle.af_told_law.specs.Deeds.{SawOwnOf, met_deed}
+use Rattle.af_told_law.specs.Deeds.{SawOwnOf}
+
+-- the list of a server that met its client
+abbrev pub met_deed : BlockTold → List ServerEvent → List ServerEvent
+met_deed b deed = deed ++ server.Learn (length (client_list b)) ∷ []
 
 pub commands_stay : (s : Session) (x : FastState) (e : EntrySeen) (n : ℕ) (t : TrackTold) → (mixed_track s x e n t).commands ≡ t.commands
 commands_stay s x e n t = by_slot (slot_playing x e.entry n)

@@ -7,9 +7,9 @@ use Rattle.af_model.specs.declared.states.ObserverEvent.TheVariants as observer
 use Rattle.af_told_law.proofs.NormalSteps.{turned_leads}
 use Rattle.af_told_law.proofs.QueueSeen.{SawUpTo, few_seen}
 use Rattle.af_told_law.specs.Between.{StandsBefore}
-use Rattle.af_told_law.specs.Places.{IsLentBy, StreamsGo, slot_in, told_by}
+use Rattle.af_told_law.proofs.Places.{IsLentBy, StreamsGo, slot_in}
 use Rattle.af_told_law.specs.QueueTurned.{QueueKnown}
-use Rattle.af_told_law.specs.Tells.{Tells, held_slot, is_coming, is_going, items_given}
+use Rattle.af_told_law.specs.Tells.{Tells, held_slot, is_coming, is_going, items_given, mutated_by}
 use Rattle.af_told_law.proofs.LooksTurned.{all_polled, coming_parts, level, sane, unseen}
 use Rattle.af_told_law.proofs.SlotHeld.{found_carries, found_track}
 use Rattle.af_told_law.proofs.StateBefore.{before_told}
@@ -31,7 +31,7 @@ module _ (links : Links) (x : SessionState) (n : NormalState) (o : Outside) (leg
   f = x.fast.observer.past
 
   abbrev t : MutatorPoint ServerState
-  t = told_by x.normal
+  t = mutated_by x.normal
 
   pushed_is : t.pushed ≡ m.number
   pushed_is = stands.step.tells.pushed m.first
@@ -49,13 +49,13 @@ module _ (links : Links) (x : SessionState) (n : NormalState) (o : Outside) (leg
   pub coming_before : is_coming n x.fast ≡ true → (is_pushed e.push ≡ false) × (e.ack ≡ false) × (is_coming x.normal x.fast ≡ true)
   coming_before coming = by_push (is_pushed e.push) refl
     where
-      parts : (not (is_going n x.fast) ≡ true) × (not (told_by n).clear ≡ true)
-      parts = and_parts (not (is_going n x.fast)) (not (told_by n).clear) coming
+      parts : (not (is_going n x.fast) ≡ true) × (not (mutated_by n).clear ≡ true)
+      parts = and_parts (not (is_going n x.fast)) (not (mutated_by n).clear) coming
 
       by_push : (b : Bool) → is_pushed e.push ≡ b → (is_pushed e.push ≡ false) × (e.ack ≡ false) × (is_coming x.normal x.fast ≡ true)
       by_push true is = absurd (true≢false (sym (pushed_going is) ∙ not-true (is_going n x.fast) parts.0))
       by_push false off =
-          let ack : e.ack ≡ false = sym (goes.queue.same_clear off pushed_is) ∙ not-true (told_by n).clear parts.1 in
+          let ack : e.ack ≡ false = sym (goes.queue.same_clear off pushed_is) ∙ not-true (mutated_by n).clear parts.1 in
           let none : is_going x.normal x.fast ≡ false = ap (λ (k : ℕ). nat_lt f.number k) (sym (goes.queue.still off).0) ∙ not-true (is_going n x.fast) parts.0 in
           (off, ack, (λ j. not (none j) && not (unseen x n o legal runs goes before.fast.0 stands.step stands.history c d later ack j)))
 
@@ -63,7 +63,7 @@ module _ (links : Links) (x : SessionState) (n : NormalState) (o : Outside) (leg
   coming_now off ack coming =
       let parts = and_parts (not (is_going x.normal x.fast)) (not t.clear) coming in
       let none : is_going n x.fast ≡ false = ap (λ (k : ℕ). nat_lt f.number k) (goes.queue.still off).0 ∙ not-true (is_going x.normal x.fast) parts.0 in
-      let clear : (told_by n).clear ≡ false = goes.queue.same_clear off pushed_is ∙ ack in
+      let clear : (mutated_by n).clear ≡ false = goes.queue.same_clear off pushed_is ∙ ack in
       (λ j. not (none j) && not (clear j))
 
   -- ## Where the observer's state leads

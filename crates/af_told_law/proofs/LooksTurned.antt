@@ -3,8 +3,8 @@ use Rattle.std.proofs.Common.{◌≡◌, ◌≢◌, ◌⊎◌, inl, inr, ⊎_eli
 use Rattle.af_told_law.proofs.Common.{Busy, Clean, HasStateHistory, IsInOrder, IsLegal, MutatorEvent, MutatorPoint, NormalKept, NormalState, ObserverEvent, ObserverPoint, Outside, Polls, Push, Pushed, Pushes, ServerState, SessionState, StreamNames, Turn, after_edits, after_push, after_takes, and_parts, append_cancel_left, at, cases_eq, eq-eqb, fold-append, going, commands_exit, is_pushed, kept_of, le-ltb, learnt, lt-ltb, mutated, mutator_list, mutator_next, mutator_start, ne_eqb, not-true, number_seen, observed, observer_next, observer_start, push_list, setup_of, slots, turn_after, turn_of}
 use Rattle.af_model.specs.declared.states.MutatorEvent.TheVariants as mutator
 use Rattle.af_model.specs.declared.states.ObserverEvent.TheVariants as observer
-use Rattle.af_told_law.specs.Places.{StreamsGo, told_by}
-use Rattle.af_told_law.specs.Tells.{is_coming, is_going, items_given, none_comes}
+use Rattle.af_told_law.proofs.Places.{StreamsGo}
+use Rattle.af_told_law.specs.Tells.{is_coming, is_going, items_given, mutated_by, none_comes}
 use Rattle.af_told_law.proofs.AckPlaces.{none_of}
 use Rattle.af_told_law.proofs.QueueLooks.{IsSane, Looked, history_sane, looked_at, point_of}
 use Rattle.af_told_law.specs.Between.{InReach}
@@ -29,7 +29,7 @@ module _ (x : SessionState) (n : NormalState) (o : Outside) (legal : IsLegal o x
   f = x.fast.observer.past
 
   abbrev t : MutatorPoint ServerState
-  t = told_by x.normal
+  t = mutated_by x.normal
 
   abbrev edits : NormalKept
   edits = after_edits (setup_of x.normal) (learnt o) e k

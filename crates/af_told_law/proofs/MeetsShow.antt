@@ -8,10 +8,24 @@ use Rattle.af_link.specs.Names.{IsStreamOf}
 use Rattle.af_model.specs.History.{HasHistory}
 use Rattle.af_model.specs.ServerCalls.{meets}
 use Rattle.af_model.proofs.ConsumedCount.{fronts-own}
-use Rattle.af_told_law.specs.Sizes.{AreSmall}
-use Rattle.af_told_law.specs.Own.{SawOwn, SeesOwn}
 use Rattle.af_told_law.proofs.SlotHeld.{found_carries, found_track}
 use Rattle.af_told_law.proofs.TrackMeets.{tracks_are}
+
+-- the blocks of the clients have no more frames than a block may have
+pub record AreSmall (y : SessionState) : Type 0 where
+  pub streams : (i : ℕ) (p : PartyState) → slice_get y.clients i ≡ Some p → p.stream.pass.part.shape.frames ≤ 65536
+  pub commands : (i : ℕ) (p : PartyState) → slice_get y.clients i ≡ Some p → p.command.pass.part.shape.frames ≤ 65536
+
+-- each front that the proxy saw is its own
+abbrev pub SawOwn : ServerState → Type 0
+SawOwn s = AllSeeOwn s.pass.part.shape (server_begins s.pass.part.shape) s.pass.part.events
+
+-- On each block whose client hasn't poked, the stream proxy that is home, the one that the observer holds, and the command proxy saw fronts of their own; and each look at the pipe saw the number of frames taken before
+pub record SeesOwn (y : SessionState) : Type 0 where
+  pub homes : (i : ℕ) (p : PartyState) (s : ServerState) → slice_get y.clients i ≡ Some p → is_lawful p.stream.pass.part.events ≡ true → stream_at y.normal.streams i ≡ Some s → SawOwn s
+  pub held : (i : ℕ) (p : PartyState) (s : ServerState) → slice_get y.clients i ≡ Some p → is_lawful p.stream.pass.part.events ≡ true → item_at y.fast.observer.items (slot_for y.fast.observer.past.state i) ≡ Some s → SawOwn s
+  pub commands : (i : ℕ) (p : PartyState) (s : ServerState) → slice_get y.clients i ≡ Some p → is_lawful p.command.pass.part.events ≡ true → slice_get y.normal.commands i ≡ Some s → SawOwn s
+  pub pipe : SeesTaken 0 y.fast.pipe.pass.part.events
 
 -- ## Fronts of a list
 

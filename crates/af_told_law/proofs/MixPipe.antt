@@ -2,8 +2,14 @@
 use Rattle.std.proofs.Common.{◌≡◌, ℕ, Bool, true, if◌then◌else◌, map, List, ◌∷◌, ◌++◌, length, sym, ap, ◌∙◌, append-nil, subst}
 use Rattle.af_told_law.proofs.Common.{ClientEvent, EntrySeen, MixerState, PipeTold, ServerEvent, SubmixSlot, Takes, entry_slot, frames_taken, is_mixed, mixed_pipe, ones, ones_append, packed_word, slot_frames, takes_shown, twos, wrapped}
 use Rattle.af_base.specs.declared.event.ServerEvent.TheVariants as server
-use Rattle.af_told_law.specs.MixLaws.{PipeTells}
 use Rattle.af_told_law.proofs.SharedMeets.{of_two, ones_two, twos_append, twos_two}
+
+-- the ends of the pipe did and have what is told
+pub record PipeTells (p : PipeTold) (puts : List ClientEvent) (put : List ℕ) (f : MixerState) : Type 0 where
+  pub puts_are : puts ≡ ones p.told
+  pub put_is : put ≡ p.put
+  pub takes : f.pipe.pass.part.events ≡ twos p.told
+  pub taken : f.pipe.pass.part.frames ≡ p.taken
 
 module _ (f g : MixerState) (e : EntrySeen) (p : PipeTold) (puts : List ClientEvent) (put : List ℕ) (h : PipeTells p puts put f) (mixed : is_mixed e.entry.cycle ≡ true) (takes : Takes f g e.entry)
     (submix : SubmixSlot f.frames f.pipe.pass.part.events g.pipe.pass.part.events (entry_slot e.entry 0)) (front : submix.front ≡ wrapped (length f.pipe.pass.part.frames))

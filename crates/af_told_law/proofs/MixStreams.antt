@@ -6,7 +6,8 @@ use Rattle.af_runs.specs.Blocks as told_of
 use Rattle.af_runs.specs.Runs.{shows_slot}
 use Rattle.af_runs.specs.Runs as run_of
 use Rattle.af_told_law.specs.Alike.{TellAlike}
-use Rattle.af_told_law.specs.Tells.{SawTold, TellsAway, TellsServer, TellsStream, held_slot, is_coming, is_going, items_given, mutated_by}
+use Rattle.af_told_law.specs.Tells.{TellsAway, TellsServer, TellsStream, held_slot, is_coming, is_going, items_given, mutated_by}
+use Rattle.af_told_law.proofs.MixSaw.{SawTold}
 use Rattle.af_told_law.proofs.KeptAlike.{cycle_told_alike}
 use Rattle.af_told_law.proofs.MixLooks.{front_own, list_grown, list_own, looks_real, real_list}
 use Rattle.af_told_law.proofs.MixSlots.{shape_same}

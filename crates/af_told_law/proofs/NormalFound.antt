@@ -4,12 +4,13 @@ use Rattle.af_told_law.proofs.Common.{AreTogether, BlockTold, FastState, GoesOn,
 use Rattle.af_runs.specs.Sessions.{setup_of}
 use Rattle.af_server.specs.Slot.{listed}
 use Rattle.af_told_law.specs.Comers.{ComersTell}
-use Rattle.af_told_law.specs.Outsides.{AreAlike, FindsBlocks, HeardAlike, IsFound, ListAlike, LooksTold, SawCommands, SawStream, TakeTold}
+use Rattle.af_told_law.proofs.Outsides.{AreAlike, IsFound, ListAlike, LooksTold, SawCommands, SawStream, TakeTold}
 use Rattle.af_told_law.specs.Tells.{Tells, TellsServer}
 use Rattle.af_told_law.proofs.FoundLegal.{found_alike, found_legal}
 use Rattle.af_told_law.proofs.TurnFronts.{commands_told, stream_told}
 use Rattle.af_told_law.specs.Deeds.{Deeds, SawOwnBy, SawOwnOf, TrackDid, commands_by, deeds_turned, done_on, stream_by}
 use Rattle.af_told_law.proofs.MixLooks.{listed_real, own_split, real_list}
+use Rattle.af_told_law.specs.NormalLaws.{FindsBlocks, HeardAlike}
 
 there_some : {X : Type 0} (o : Option X) → is_some o ≡ true → (x : X) × (o ≡ Some x)
 there_some None e = absurd (true≢false (sym e))

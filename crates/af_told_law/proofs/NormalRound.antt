@@ -4,8 +4,9 @@ use Rattle.af_told_law.proofs.Common.{AreTogether, HandEvent, HandSide, IsLegal,
 use Rattle.af_runs.specs.Sessions.{setup_of}
 use Rattle.af_told_law.specs.Between.{StandsBefore}
 use Rattle.af_told_law.specs.NormalLaws.{PartsTold, TurnShown, did_by, track_turned}
-use Rattle.af_told_law.specs.Places.{StreamsGo, StreamsStay}
-use Rattle.af_told_law.specs.QueueTurned.{MutatorGoes, QueueKnown}
+use Rattle.af_told_law.proofs.Places.{StreamsGo, StreamsStay}
+use Rattle.af_told_law.specs.QueueTurned.{QueueKnown}
+use Rattle.af_told_law.proofs.TurnQueue.{MutatorGoes}
 use Rattle.af_told_law.specs.Tells.{Tells, TellsTrack}
 use Rattle.af_told_law.proofs.LegalAlike.{mutator_list_same}
 use Rattle.af_told_law.proofs.NormalFound.{turn_alike}

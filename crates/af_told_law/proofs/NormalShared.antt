@@ -4,10 +4,10 @@ use Rattle.af_told_law.proofs.Common.{Busy, Clean, FastState, IsLegal, Item, Kee
 use Rattle.af_model.specs.declared.states.MutatorEvent.TheVariants as mutator
 use Rattle.af_runs.specs.Sessions.{setup_of}
 use Rattle.af_told_law.specs.NormalLaws.{ShowsFront}
-use Rattle.af_told_law.specs.QueueTurned.{MutatorGoes, QueueKnown}
+use Rattle.af_told_law.specs.QueueTurned.{QueueKnown}
+use Rattle.af_told_law.proofs.TurnQueue.{MutatorGoes, known_after, list_told, state_first}
 use Rattle.af_told_law.specs.Tells.{Tells, TellsFast, TellsNormal, TellsShared}
 use Rattle.af_told_law.proofs.NormalSteps.{all_push}
-use Rattle.af_told_law.proofs.TurnQueue.{known_after, list_told, state_first}
 use Rattle.af_told_law.proofs.TurnShared.{pipe_puts, pipe_takes, twos_same}
 use Rattle.af_told_law.specs.Deeds.{Deeds}
 

@@ -5,11 +5,12 @@ use Rattle.af_told_law.specs.Leads.{HasLearnt, InStep, LeadAway}
 use Rattle.af_model.specs.declared.states.MutatorEvent.TheVariants as mutator
 use Rattle.af_model.specs.declared.states.ObserverEvent.TheVariants as observer
 use Rattle.af_runs.specs.Runs as run_of
-use Rattle.af_told_law.specs.Tells.{FindsLast, Tells, items_sent, mutated_by}
-use Rattle.af_told_law.proofs.AllMeet.{met_histories, tells_met}
-use Rattle.af_told_law.proofs.PollNew.{polled_told}
+use Rattle.af_told_law.specs.Tells.{Tells, items_sent, mutated_by}
+use Rattle.af_told_law.proofs.PollNew.{FindsLast, polled_told}
+use Rattle.af_told_law.proofs.AllMeet.{MetTold, met_histories, tells_met}
 use Rattle.af_told_law.proofs.SharedMeets.{pushed_still}
-use Rattle.af_told_law.specs.Deeds.{Deeds, MetTold, deeds_met}
+use Rattle.af_told_law.specs.Deeds.{Deeds}
+use Rattle.af_told_law.proofs.TrackMeets.{deeds_met}
 
 abbrev Pushed : Type 0
 Pushed = List (MutatorEvent ServerState)

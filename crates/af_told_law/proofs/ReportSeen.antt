@@ -8,8 +8,8 @@ use Rattle.af_model.specs.NewestValue.{HasValueHistory}
 use Rattle.af_told_law.specs.QueueTurned.{ReportMet}
 use Rattle.af_told_law.specs.Tells.{Tells, reports_stored}
 use Rattle.af_told_law.proofs.TurnReport.{all_stored, last_told, loads_behind, loads_first}
-use Rattle.af_told_law.specs.Outsides.{HeardAlike}
 use Rattle.af_told_law.specs.Deeds.{Deeds}
+use Rattle.af_told_law.specs.NormalLaws.{HeardAlike}
 
 -- ## The reports of a list
 

@@ -3,7 +3,7 @@ use Rattle.std.proofs.Common.{Bool, List, [], ap, arith, false, if◌then◌else
 use Rattle.af_told_law.proofs.Common.{CommandLook, FastState, Heard, IsSound, Learnt, Listed, NormalKept, Outside, ServerKept, Setup, Shape, SlotReport, TrackKept, TrackSeen, Turn, acked_len, after_ack, after_edits, after_part, after_push, after_takes, after_tracks, at_set, commanded_by, counts_in, edited, edited_to, flushes_by, get_or-set_other, goes_served, heard, heard_at_home, heard_by, heard_elsewhere, heard_with, is_home, is_reported, known_by, learnt, lend, let_go, must_enter, must_leave, new_track, no_counts, not_yet, noted, plays, ready, seen_at, served, served_len, served_to, settled_at, slice_set, slot_reported, sound_acked, sound_served, track_at, tracks_at, turn_after}
 use Rattle.af_life.specs.Edits.{mutated}
 use Rattle.af_life.specs.Obeys.{slot_for}
-use Rattle.af_told_law.specs.Outsides.{AreAlike, LearnAlike, ListAlike, OwnAlike}
+use Rattle.af_told_law.proofs.Outsides.{AreAlike, LearnAlike, ListAlike, OwnAlike}
 
 -- ## What is heard
 

@@ -2,7 +2,20 @@
 use Rattle.std.proofs.Common.{◌≡◌, ◌≢◌, ℕ, zero, suc, ◌+◌, ◌-◌, ◌<◌, ◌≤◌, ◌==◌, ◌&&◌, ◌||◌, not, Bool, true, false, true≢false, if◌then◌else◌, map, List, [], ◌∷◌, ◌++◌, length, Option, None, refl, sym, ap, subst, ◌∙◌, append-nil, arith}
 use Rattle.af_told_law.proofs.Common.{Busy, Clean, FastState, Item, KeepsMutator, Learnt, LegalPush, MutatorEvent, NormalKept, NormalState, Outside, Push, Pushed, QueueTold, Run, ServerState, Setup, Turn, after_edits, brought_by, going, initial, is_look_at, is_pushed, items_of, kept_of, learnt, length-append, list_any, list_any-append, marked, marked_event, mutator_does, mutator_list, number_seen, one, ones, push_list, setup_of, state_at, state_of, two, unwrap_or, was_seen}
 use Rattle.af_model.specs.declared.states.MutatorEvent.TheVariants as mutator
-use Rattle.af_told_law.specs.QueueTurned.{MutatorGoes, QueueKnown}
+use Rattle.af_told_law.specs.QueueTurned.{QueueKnown}
+
+-- The mutator looked and perhaps pushed: its list grew so, with these items. A look that first sees the last state acknowledged brings those of the slots that went off with it, and a push sends those of the slots that are new in its state
+pub record MutatorGoes (o : Outside) (x y : NormalState) (e : Turn) : Type 0 where
+  pub back : List (Option ServerState)
+  pub again : List (Option ServerState)
+  pub sent : List (Option ServerState)
+  pub list : y.mutator.past.events ≡ x.mutator.past.events ++ mutator_list (setup_of x) (learnt o) (kept_of x) e back again sent
+  pub marks_back : marked back ≡ (if e.ack && not x.mutator.past.clear then items_of x.mutator.past.before x.mutator.past.last else [])
+  pub marks_again : marked again ≡ (if is_pushed e.push && not e.ack then items_of x.mutator.past.before x.mutator.past.last else [])
+  pub marks_sent : is_pushed e.push ≡ true → marked sent ≡ items_of y.mutator.past.last x.mutator.past.last
+  pub older : e.ack ≡ false → x.mutator.past.clear ≡ false
+  pub shown : is_pushed e.push ≡ true → (y.mutator.past.before ≡ x.mutator.past.last) × (y.mutator.past.clear ≡ false)
+  pub still : is_pushed e.push ≡ false → (y.mutator.past.before ≡ x.mutator.past.before) × (y.mutator.past.clear ≡ e.ack)
 
 abbrev Events : Type 0
 Events = List (MutatorEvent Item)

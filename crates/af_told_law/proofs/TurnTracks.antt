@@ -5,7 +5,7 @@ use Rattle.af_runs.specs.Blocks.{hand_list as told_hand}
 use Rattle.af_runs.specs.Sessions.{setup_of}
 use Rattle.af_told_law.specs.Comers.{ComersTell}
 use Rattle.af_told_law.specs.Alike.{TellAlike}
-use Rattle.af_told_law.specs.Outsides.{AreAlike, FindsBlocks, HeardAlike, IsFound, SameFront, SawCommands, SawStream}
+use Rattle.af_told_law.proofs.Outsides.{AreAlike, IsFound, SameFront, SawCommands, SawStream}
 use Rattle.af_told_law.specs.Tells.{Tells, TellsCommands, TellsServer}
 use Rattle.af_told_law.proofs.ClientTold.{did_same}
 use Rattle.af_told_law.proofs.FoundLegal.{found_alike, looks_same_fronts, taken_same}
@@ -16,6 +16,7 @@ use Rattle.af_told_law.proofs.TakenHome.{taken_home}
 use Rattle.af_told_law.proofs.TurnAlike.{learn_alike, turn_same}
 use Rattle.af_told_law.specs.Deeds.{DeedTold, Deeds, SawOwnOf, commands_by, done_on, stream_by}
 use Rattle.af_told_law.proofs.MixLooks.{real_list}
+use Rattle.af_told_law.specs.NormalLaws.{FindsBlocks, HeardAlike}
 
 -- ## A block after some events
 
