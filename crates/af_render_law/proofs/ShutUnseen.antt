@@ -5,7 +5,7 @@ use Rattle.af_cblk.specs.Rule.{StartsWith}
 use Rattle.af_life.specs.Sound.{IsSound}
 use Rattle.af_model.specs.History.{HasHistory}
 use Rattle.af_normal.specs.State.{setup_of as mixer_setup}
-use Rattle.af_render_law.specs.Aware.{KnowsAway}
+use Rattle.af_render_law.proofs.AwayKnown.{KnowsAway}
 use Rattle.af_told_law.specs.Comers.{ComersTell}
 use Rattle.af_render_law.proofs.InvalidKept.{InvalidKept, away_unset}
 use Rattle.af_told_law.proofs.LegalAlike.{invalid_same}

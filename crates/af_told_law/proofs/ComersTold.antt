@@ -1,12 +1,10 @@
 -- The stream proxies that come home in a turn of the normal mixer tell their blocks, if it is known how they come.
 use Rattle.std.proofs.Common.{◌≡◌, ℕ, ◌<◌, ◌&&◌, Bool, true, false, true≢false, if◌then◌else◌, is_some, List, length, Option, Some, None, refl, sym, ◌∙◌, arith}
-use Rattle.af_told_law.proofs.Common.{Home, Lent, Returning, Run, ServerState, Session, SessionState, Turn, after_ack, at, is_home, is_returning, kept_of, slot_number, some_at, told_at, track_at}
+use Rattle.af_told_law.proofs.Common.{Home, Lent, Returning, Run, ServerState, Session, SessionState, Turn, after_ack, at, in_hand, is_home, is_returning, kept_of, slot_number, some_at, told_at, track_at}
 use Rattle.af_life.specs.declared.kept.Holder.{Holder}
 use Rattle.af_told_law.specs.Comers.{ComersTell}
-use Rattle.af_told_law.specs.Tells.{Tells, TellsAway, TellsServer}
+use Rattle.af_told_law.specs.Tells.{Tells, TellsAway, TellsServer, held_slot, is_coming, items_given, none_comes}
 use Rattle.af_told_law.specs.Deeds.{Deeds, done_on}
-use Rattle.af_normal.specs.LegalTurned.{in_hand}
-use Rattle.af_told_law.specs.Tells.{held_slot, is_coming, items_given, none_comes}
 
 -- How the proxy of a returning track comes home with these items: the observer doesn't hold it, and it comes with the items that were given back, or was in the mutator's hand before
 pub record ComesBy (x : SessionState) (i : ℕ) (back : List (Option ServerState)) : Type 0 where

@@ -1,13 +1,11 @@
 -- The ends of a session that a run tells keep the lists of that run.
 use Rattle.std.proofs.Common.{◌≡◌, ℕ, ◌<◌, true, List, slice_get, Some, sym, ap, subst, ◌∙◌, arith}
-use Rattle.af_told_law.proofs.Common.{BlockTold, ClientState, KeepsClient, PartyState, Run, ServerEvent, ServerState, Session, SessionState, Side, Track, is_tame, server_list, client_side, side_of_proxy, slice_get_within, told_at, track_count}
+use Rattle.af_told_law.proofs.Common.{BlockTold, ClientState, KeepsClient, Marks, PartyState, Run, ServerEvent, ServerState, Session, SessionState, Side, Track, client_side, is_tame, server_list, side_of_proxy, slice_get_within, stream_at, told_at, track_count}
 use Rattle.af_session.specs.Ends.{ends_from}
 use Rattle.af_told_law.specs.Alike.{TellAlike}
 use Rattle.af_told_law.specs.Deeds.{DeedTold, Deeds, SawOwnBy, SawOwnOf, done_on}
 use Rattle.af_told_law.specs.KeptEnds.{KeepsLists, KeepsProxy, KeepsTrack}
 use Rattle.af_told_law.specs.Tells.{Tells, TellsServer, TellsTrack}
-use Rattle.af_runs.specs.Blocks.{Marks}
-use Rattle.af_normal.specs.Mixing.{stream_at}
 
 -- of each stream proxy that is home, and of each command proxy, each front seen is the server's own if no poke was told
 pub record SawAtHome (s : Session) (run : Run) (d : Deeds) (x : SessionState) : Type 0 where

@@ -1,17 +1,6 @@
 -- When a turn of the normal mixer reads the same of two outsides.
 use Rattle.std.specs.Prelude.{List, [], false, is_some, length, true, ℕ, ◌++◌, ◌<◌, ◌∷◌, ◌≡◌, ◌⊎◌}
-use Rattle.af_base.specs.declared.log.SlotEntry.{SlotEntry}
-use Rattle.af_base.specs.declared.turn.CommandLook.{CommandLook}
-use Rattle.af_base.specs.Turn.{TakeSeen, Turn}
-use Rattle.af_life.specs.declared.kept.TrackKept.{TrackKept}
-use Rattle.af_life.specs.Edits.{after_ack}
-use Rattle.af_life.specs.Kept.{Learnt, NormalKept, Outside, Setup, asked, is_home, track_at, track_in}
-use Rattle.af_life.specs.Looks.{LegalLooks, command_events, did}
-use Rattle.af_life.specs.TurnEvents.{takes_from}
-use Rattle.af_model.specs.Cycles.{Listed, LooksBy, kept}
-use Rattle.af_runs.specs.Blocks.{listed}
-use Rattle.af_runs.specs.Found.{TurnFound, take_front}
-use Rattle.af_runs.specs.Fronts.{front_of, fronts_by, lawful_front}
+use Rattle.af_told_law.proofs.Common.{CommandLook, Learnt, LegalLooks, Listed, LooksBy, NormalKept, Outside, Setup, SlotEntry, TakeSeen, TrackKept, Turn, TurnFound, after_ack, asked, command_events, did, front_of, fronts_by, is_home, kept, lawful_front, listed, take_front, takes_from, track_at, track_in}
 use Rattle.af_told_law.specs.Alike.{TellAlike}
 use Rattle.af_told_law.specs.Deeds.{SawOwnOf, commands_by, stream_by}
 use Rattle.af_told_law.specs.NormalLaws.{HeardAlike}

@@ -1,27 +1,8 @@
 -- Where each stream proxy lies after a turn of the normal mixer, from where it came, and what it did and took.
 use Rattle.af_told_law.specs.Tells.{mutated_by}
+use Rattle.af_told_law.proofs.Common.{Adds, IsLegal, Links, NormalState, Outside, ServerEvent, ServerState, Turn, TurnMade, after_edits, answer_of, at, carries, going, home_stream, in_hand, in_queue, is_home, is_out, is_pushed, items_of, kept_of, learnt, marked, must_enter, mutator_list, packed_word, served_tracks, setup_of, slot_number, slots, stream_at, takes_from, track_at, turn_of}
 use Rattle.std.specs.Prelude.{◌≡◌, ◌⊎◌, ℕ, ◌+◌, ◌<◌, ◌&&◌, not, if◌then◌else◌, true, false, List, [], ◌++◌, map, flat_map, Option, Some, None, is_some}
-use Rattle.af_base.specs.declared.event.ServerEvent.{ServerEvent}
-use Rattle.af_base.specs.Log.{slots}
-use Rattle.af_base.specs.Sample.{packed_word}
-use Rattle.af_base.specs.Turn.{Turn, turn_of}
-use Rattle.af_life.specs.Edits.{must_enter}
-use Rattle.af_life.specs.Heard.{learnt}
-use Rattle.af_life.specs.Kept.{Outside, is_home, slot_number, track_at}
-use Rattle.af_life.specs.Turn.{after_edits}
-use Rattle.af_life.specs.TurnEvents.{going, mutator_list, takes_from}
-use Rattle.af_link.specs.declared.links.Links.{Links}
-use Rattle.af_model.specs.StateQueue.{carries}
-use Rattle.af_normal.specs.LegalTurned.{IsLegal, home_stream, in_hand, in_queue, served_tracks}
-use Rattle.af_normal.specs.Mixing.{stream_at}
 use Rattle.af_normal.specs.Order.{IsInOrder}
-use Rattle.af_normal.specs.Serving.{Adds}
-use Rattle.af_normal.specs.State.{NormalState, kept_of, setup_of}
-use Rattle.af_normal.specs.TurnMade.{TurnMade, answer_of}
-use Rattle.af_runs.specs.KeptLists.{marked}
-use Rattle.af_runs.specs.Told.{is_pushed, items_of}
-use Rattle.af_server.specs.Order.{ServerState}
-use Rattle.af_stateq.specs.Mutates.{at, is_out}
 use Rattle.af_told_law.specs.Deeds.{stream_by}
 
 -- the words that a turn took of the track i, as its stream block has them taken

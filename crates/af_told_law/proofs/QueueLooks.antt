@@ -1,9 +1,8 @@
 -- What a look at the acknowledgement brings, by the history of the queue, wherever it stands: the items given back with the last acknowledgement, if it saw that.
 use Rattle.std.proofs.Common.{◌≡◌, ◌≢◌, ⊎_elim, ℕ, ◌+◌, ◌≤◌, ◌<◌, ◌==◌, ◌&&◌, not, Bool, true, false, true≢false, if◌then◌else◌, List, [], ◌∷◌, ◌++◌, length, length-append, get_or, Option, refl, sym, ap, subst, ◌∙◌, arith}
-use Rattle.af_told_law.proofs.Common.{AreOf, Event, FastState, HasStateHistory, Legal, MutatorEvent, MutatorPoint, ObserverEvent, ObserverPoint, QueuePoint, SawAck, ServerState, point_after, after_ones, after_twos, cases_eq, eq-eqb, eqb-true, legal, legal_at, mutated, ne_eqb, next, observed, one, ones, start_of_queue, two}
+use Rattle.af_told_law.proofs.Common.{Ack, AreOf, Event, FastState, HasStateHistory, Legal, MutatorEvent, MutatorPoint, ObserverEvent, ObserverPoint, QueuePoint, SawAck, SawNext, ServerState, after_ones, after_twos, cases_eq, eq-eqb, eqb-true, legal, legal_at, mutated, ne_eqb, next, observed, one, ones, point_after, start_of_queue, two}
 use Rattle.af_model.specs.declared.states.MutatorEvent.TheVariants.{Push}
 use Rattle.af_model.specs.declared.states.MutatorEvent.TheVariants as mutator
-use Rattle.af_model.specs.declared.states.ObserverEvent.TheVariants.{Ack, SawNext}
 use Rattle.af_model.specs.declared.states.ObserverEvent.TheVariants as observer
 
 abbrev Events : Type 0

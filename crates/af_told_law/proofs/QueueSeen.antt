@@ -1,10 +1,9 @@
 -- What the two lists of a queue say of each other: no more states were acknowledged than pushed, and no look saw more acknowledged than were.
 use Rattle.std.proofs.Common.{◌≡◌, ◌≢◌, ℕ, ◌≤◌, ◌==◌, if◌then◌else◌, Bool, true, false, List, [], ◌∷◌, ◌++◌, Option, refl, ap, subst, ◌∙◌, arith}
-use Rattle.af_told_law.proofs.Common.{Ack, FastState, HasStateHistory, MutatorEvent, MutatorPoint, ObserverEvent, ObserverPoint, QueuePoint, SawAck, SawNext, after_ones, after_twos, legal, mutated, next, observed, start_of_queue}
+use Rattle.af_told_law.proofs.Common.{Ack, Event, FastState, HasStateHistory, Legal, MutatorEvent, MutatorPoint, ObserverEvent, ObserverPoint, QueuePoint, SawAck, SawNext, after_ones, after_twos, legal, mutated, next, observed, one, ones, point_after, start_of_queue, two}
 use Rattle.af_model.specs.declared.states.MutatorEvent.TheVariants.{Push}
 use Rattle.af_model.specs.declared.states.MutatorEvent.TheVariants as mutator
 use Rattle.af_model.specs.declared.states.ObserverEvent.TheVariants as observer
-use Rattle.af_model.specs.Order.{Event, one, two, ones, Legal, point_after}
 
 due_next : (k acked pushed : ℕ) (b : Bool) → acked ≤ pushed → k ≡ pushed → (if b then 0 else k) ≢ 0 → (acked ≤ (if b then 0 else k)) × ((if b then 0 else k) ≤ pushed)
 due_next k acked pushed true le is ne = absurd (ne refl)
