@@ -96,7 +96,7 @@ pub use Rattle.af_stateq.specs.Answers.{TakesIt, WasPolled, sees_same}
 pub use Rattle.af_stateq.specs.Ends.{Polls, Pushes, acknowledged, took}
 pub use Rattle.af_stateq.specs.Laws.{is_push}
 pub use Rattle.af_stateq.specs.Observes.{Observes}
-pub use Rattle.af_told_law.proofs.Basics.{commands_stay, met_deed, no_exit, ones_observed, own_met, same_last}
+pub use Rattle.af_told_law.proofs.Basics.{commands_stay, met_deed, no_exit, own_met, same_last}
 pub use Rattle.af_told_law.proofs.KnownSteps.{Quiet, known_new, known_same, quiet_ends, quiet_met, quiet_then, report_ends}
 pub use Rattle.af_told_law.proofs.MarkedRuns.{new_marked, round_marked}
 pub use Rattle.af_told_law.proofs.NewTold.{new_told, no_deeds}

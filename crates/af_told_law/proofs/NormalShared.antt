@@ -8,8 +8,9 @@ use Rattle.af_told_law.specs.QueueTurned.{QueueKnown}
 use Rattle.af_told_law.proofs.TurnQueue.{MutatorGoes, known_after, list_told, state_first}
 use Rattle.af_told_law.specs.Tells.{Tells, TellsFast, TellsNormal, TellsShared}
 use Rattle.af_told_law.proofs.NormalSteps.{all_push}
-use Rattle.af_told_law.proofs.TurnShared.{pipe_puts, pipe_takes, twos_same}
+use Rattle.af_told_law.proofs.TurnShared.{pipe_puts, pipe_takes}
 use Rattle.af_told_law.specs.Deeds.{Deeds}
+use Rattle.af_judge.proofs.QueueSteps.{twos_stay}
 
 -- ## States pushed
 
@@ -124,7 +125,7 @@ module _ (s : Session) (run : Run) {d : Deeds} (x : SessionState) (n : NormalSta
     none_put over = ap (λ (t : Turn). put_by (setup_of s) t.mixes) (ended_is over)
 
     observer_same : twos after.queue ≡ twos run.queue
-    observer_same = ap (λ (q : QueueTold). twos q) queue_is ∙ twos_same run.queue _
+    observer_same = ap (λ (q : QueueTold). twos q) queue_is ∙ twos_stay run.queue _
 
     pub shared_turned : TellsShared s after unread x.fast
     unfolding with_turn
