@@ -1,6 +1,6 @@
 -- What is on its way between the mixers after a turn of the normal mixer that goes on, by what was before it, and where the slots of the observer's state lead.
 use Rattle.std.proofs.Common.{◌≡◌, ◌≢◌, ⊎_elim, ℕ, ◌-◌, ◌<◌, ◌&&◌, not, nat_lt, Bool, true, false, true≢false, is_some, List, [], ◌∷◌, ◌++◌, length, Option, Some, None, refl, sym, ap, subst, ◌∙◌, arith}
-use Rattle.af_told_law.proofs.Common.{AreTogether, FastState, HasStateHistory, IsLegal, Links, MutatorPoint, NormalState, ObserverPoint, Outside, Polls, Pushes, Run, ServerState, Session, SessionState, StreamNames, Turn, and_parts, at, away_slot, carries, cases_eq, cycle_frames, fold-append, is_pushed, kept_of, lt-ltb, mutated, not-true, observed, observer_next, observer_start, pushed_states, slot_for, slot_number, slots, state_at, track_at, turn_of}
+use Rattle.af_told_law.proofs.Common.{AreTogether, FastState, HasStateHistory, IsLegal, Links, MutatorPoint, NormalState, ObserverPoint, Outside, Polls, Pushes, Run, ServerState, Session, SessionState, StreamNames, Turn, and_parts, at, away_slot, both_first, carries, cases_eq, cycle_frames, fold-append, is_pushed, kept_of, lt-ltb, mutated, not-true, observed, observer_next, observer_start, pushed_states, slot_for, slot_number, slots, state_at, track_at, turn_of}
 use Rattle.af_told_law.specs.Leads.{Leads}
 use Rattle.af_model.specs.declared.states.MutatorEvent.TheVariants as mutator
 use Rattle.af_model.specs.declared.states.ObserverEvent.TheVariants as observer
@@ -14,10 +14,6 @@ use Rattle.af_told_law.proofs.LooksTurned.{all_polled, coming_parts, level, sane
 use Rattle.af_told_law.proofs.SlotHeld.{found_carries, found_track}
 use Rattle.af_told_law.proofs.StateBefore.{before_told}
 use Rattle.af_told_law.specs.Deeds.{Deeds}
-
-first_of : (a b : Bool) → true ≡ (a && b) → a ≡ true
-first_of true b is = refl
-first_of false b is = absurd (true≢false is)
 
 module _ (links : Links) (x : SessionState) (n : NormalState) (o : Outside) (legal : IsLegal o x.normal n) (runs : (turn_of n.entry).ended ≡ false) (goes : StreamsGo o x.normal n (turn_of n.entry)) (before : AreTogether links x) (after : AreTogether links (record x { normal = n }))
     (stands : StandsBefore x) (c d : ℕ) (later : HasStateHistory x.normal.mutator.past.first (n.mutator.past.events ++ mutator.Learn c ∷ []) (x.fast.observer.past.events ++ observer.Learn d ∷ [])) where
@@ -125,7 +121,7 @@ module _ (links : Links) (x : SessionState) (n : NormalState) (o : Outside) (leg
     pub lent_new : (p : ServerState) → 0 < m.number → at t.items (slot_in n i) ≡ Some p → ⊥
     lent_new p some here =
         let sent = (sane x n o legal runs goes before.fast.0 stands.step stands.history c d later).sent (let same = pushed_is in omega (arith, some, same)) in
-        let on : carries t.last slot ≡ true = first_of (carries t.last slot) _ (sym (ap is_some here) ∙ sent.1 slot lent_low) in
+        let on : carries t.last slot ≡ true = both_first (carries t.last slot) _ (sym (sent.1 slot lent_low) ∙ ap is_some here) in
         true≢false (sym on ∙ ap (λ (y : FastState). carries y slot) (stands.step.tells.last some m.first) ∙ lent.last)
 
     -- no item is on its way back for the slot, if the last state isn't seen acknowledged
@@ -135,7 +131,7 @@ module _ (links : Links) (x : SessionState) (n : NormalState) (o : Outside) (leg
         let some : 0 < m.number = (legal.legal.goes_on runs).ack off in
         let all : (observed f.events).acked ≡ t.pushed = before.fast.0.observer.told.acked ∙ parts.0 ∙ sym pushed_is in
         let given = (sane x n o legal runs goes before.fast.0 stands.step stands.history c d later).given parts.1 all in
-        let on : carries t.before slot ≡ true = first_of (carries t.before slot) _ (sym (ap is_some here) ∙ given.1 slot lent_low) in
+        let on : carries t.before slot ≡ true = both_first (carries t.before slot) _ (sym (given.1 slot lent_low) ∙ ap is_some here) in
         let many : 0 < length (pushed_states m.events) = subst (λ (ys : List FastState). 0 < length ys) (sym told.normal.states) (some_pushed some) in
         let state : t.before ≡ m.before =
         ap (λ (y : FastState). (mutated y m.events).before) told.shared.first

@@ -9,6 +9,7 @@ use Rattle.af_life.specs.declared.kept.Setting.{Setting}
 use Rattle.af_life.specs.Edits.{mutated}
 use Rattle.af_stateq.proofs.Bits.{attached_else, detached_else, detached_here, slot_else, slot_here}
 use Rattle.af_told_law.specs.Leads.{LeadAway, LeadLent, Leads}
+use Rattle.af_base.proofs.Basics.{and_none}
 
 -- the track of a slot of a state
 abbrev led : FastState → ℕ → ℕ
@@ -26,12 +27,7 @@ module _ (tracks now : List TrackKept) (put : (j : ℕ) → StaysPut (track_at t
 -- ## What comes home
 
 carried_stays : (last : FastState) (s : TrackKept) → carries last (slot_number s) ≡ true → comes_home last s ≡ false
-carried_stays last s on = by_returning (is_returning s.holder) (carries last (slot_number s)) on
-  where
-    by_returning : (a b : Bool) → b ≡ true → (a && not b) ≡ false
-    by_returning true true e = refl
-    by_returning true false e = no e
-    by_returning false b e = refl
+carried_stays last s on = and_none (is_returning s.holder) (not (carries last (slot_number s))) (ap not on)
 
 lent_stays : (last : FastState) (s : TrackKept) → is_lent s.holder ≡ true → comes_home last s ≡ false
 lent_stays last s lent = ap (λ (b : Bool). b && not (carries last (slot_number s))) (not_returning s.holder lent)
