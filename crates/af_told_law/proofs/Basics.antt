@@ -1,6 +1,6 @@
 -- Basic lemmas that several files here, and of the crates above, cite.
-use Rattle.std.proofs.Common.{List, None, Option, Some, [], ap, arith, false, fold, length, refl, suc, sym, true, true≢false, zero, ℕ, ◌++◌, ◌+◌, ◌<◌, ◌∷◌, ◌≡◌, ◌≢◌}
-use Rattle.af_told_law.proofs.Common.{AllSeeOwn, BlockTold, Busy, Clean, Cycle, CycleEntry, EntrySeen, FastState, Push, Pushed, ServerEvent, ServerKept, ServerState, Session, Shape, TrackTold, append_cancel_left, at, client_list, cycle_frames, in_queue, is_mixed, is_pushed, mixed_track, none-some, played, server_begins, server_keeps, slice_index_or, two}
+use Rattle.std.proofs.Common.{List, None, Option, Some, [], ap, arith, false, fold, length, refl, suc, sym, true, true≢false, zero, ℕ, ◌++◌, ◌<◌, ◌∷◌, ◌≡◌}
+use Rattle.af_told_law.proofs.Common.{AllSeeOwn, BlockTold, Busy, Clean, Cycle, CycleEntry, EntrySeen, FastState, Push, Pushed, ServerEvent, ServerKept, ServerState, Session, Shape, TrackTold, append_cancel_left, at, client_list, cycle_frames, in_queue, is_mixed, is_pushed, mixed_track, none-some, played, server_begins, server_keeps, slice_index_or}
 use Rattle.af_base.specs.declared.event.ServerEvent.TheVariants as server
 use Rattle.af_base.specs.declared.log.Cycle.TheVariants as cycle
 use Rattle.af_model.specs.Cycles.{is_exit}

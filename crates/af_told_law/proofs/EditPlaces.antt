@@ -1,5 +1,5 @@
 -- Where the edits of a turn leave the items of the queue, track by track.
-use Rattle.std.proofs.Common.{◌≡◌, ◌≢◌, ℕ, zero, suc, ◌<◌, ◌≤◌, ◌&&◌, ◌⊎◌, inl, inr, Bool, true, false, true≢false, MatchBool, sym, refl, ap, subst, ◌∙◌, List, [], ◌∷◌, length, length-set, Option, Some, None, ⊎_elim, get_or-set_same, get_or-set_other, arith}
+use Rattle.std.proofs.Common.{◌≡◌, ◌≢◌, ℕ, zero, suc, ◌<◌, ◌≤◌, ◌⊎◌, inl, inr, Bool, true, false, true≢false, MatchBool, sym, refl, ap, subst, ◌∙◌, List, [], ◌∷◌, length, length-set, Option, Some, None, ⊎_elim, get_or-set_same, get_or-set_other, arith}
 use Rattle.af_told_law.proofs.Common.{EditsTo, EditsTrack, IsSound, Lends, LetsGo, NormalState, Returning, ServerState, Setup, TrackKept, apart, at, at_here, at_other, away_holds, both_first, cases_eq, cases_lt, comer_holds, comer_inside, comer_slot, entered, holds, is_home, kept_of, known_by, leaver_away, lends, lent_by, lets_go, must_enter, must_leave, none-some, nothing_heard, set_each, setting_of, setup_of, slice_set, slot_number, slots, sound_go, sound_lend, stream_at, track_at}
 use Rattle.af_server.specs.Slot.{listed}
 

@@ -1,5 +1,5 @@
 -- A stream proxy that is home after a turn of the normal mixer, or is lent by it, was home once the acknowledgement was seen.
-use Rattle.std.proofs.Common.{◌≡◌, inl, inr, ℕ, zero, suc, ◌==◌, ◌&&◌, Bool, true, false, true≢false, if◌then◌else◌, fold, List, [], ◌∷◌, length, sym, ap, ◌∙◌, subst}
+use Rattle.std.proofs.Common.{◌≡◌, inl, inr, ℕ, zero, suc, ◌==◌, Bool, true, false, true≢false, if◌then◌else◌, fold, List, [], ◌∷◌, length, sym, ap, ◌∙◌, subst}
 use Rattle.af_told_law.proofs.Common.{Command, IsSound, Learnt, NormalKept, Returning, Setup, TakeSeen, TrackKept, Turn, after_ack, after_edits, after_push, after_take, after_takes, after_tracks, asked, at_set, both_first, code_of, draft_commanded as with_command, edited, edited_to, entered, is_home, lend, lent_by, let_go, must_enter, must_leave, ordered, push_tracks, slice_set, sound_acked, track_at, turn_after}
 use Rattle.af_life.specs.Edits.{mutated}
 use Rattle.af_told_law.proofs.TurnAlike.{served_holder}

@@ -1,5 +1,5 @@
 -- What is known of the queue and of the report stays known while no turn of the normal mixer is made.
-use Rattle.std.proofs.Common.{◌≡◌, ℕ, ◌-◌, ◌<◌, ◌==◌, ◌||◌, Bool, true, false, if◌then◌else◌, fold, inr, List, [], ◌∷◌, ◌++◌, length, refl, sym, ap, subst, ◌∙◌, arith}
+use Rattle.std.proofs.Common.{◌≡◌, ℕ, ◌-◌, ◌<◌, ◌==◌, ◌||◌, Bool, true, false, if◌then◌else◌, fold, inr, List, [], ◌∷◌, length, refl, sym, ap, subst, ◌∙◌, arith}
 use Rattle.af_told_law.proofs.Common.{EntrySeen, FastState, Frame, IsNewSession, Item, NormalState, ObserverEvent, QueueTold, RoundSeen, Run, ScriptData, Session, SessionState, SharedState, calls_alone, cycle_alone, cycle_frames, is_look_at, list_any, list_any-append, met, new_run, observer_does, ones, or_false, queue_met, session_of, state_at, was_seen, with_ends, with_mix, with_poll}
 use Rattle.af_model.specs.declared.states.MutatorEvent.TheVariants as mutator
 use Rattle.af_judge.proofs.QueueSteps.{ones_met, ones_stay}

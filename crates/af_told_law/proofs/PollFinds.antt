@@ -1,6 +1,6 @@
 -- A poll finds the last state pushed, if its observer had learnt of all pushes: so the poll is told, with the meetings after it.
-use Rattle.std.proofs.Common.{◌≡◌, ◌≢◌, ⊎_elim, ◌+◌, ◌≤◌, ◌||◌, false, if◌then◌else◌, List, [], ◌∷◌, ◌++◌, length, Option, Some, ap, subst, ◌∙◌, arith}
-use Rattle.af_told_law.proofs.Common.{Adopts, AreTogether, FastState, HasStateHistory, HaveHistories, Links, Met, MixerState, MutatorEvent, MutatorPoint, NormalState, ObserverEvent, ObserverPoint, Polls, Pushes, Run, ServerState, Session, SessionState, StreamNames, acknowledged, false_from_ne_true, fold-append, is_over, mutated, mutator_next, mutator_start, observed, observer_next, observer_start, one, took, with_poll}
+use Rattle.std.proofs.Common.{◌≡◌, ⊎_elim, ◌+◌, false, List, [], ◌∷◌, ◌++◌, length, Option, Some, ap, subst, ◌∙◌, arith}
+use Rattle.af_told_law.proofs.Common.{Adopts, AreTogether, FastState, HasStateHistory, HaveHistories, Links, Met, MixerState, MutatorEvent, MutatorPoint, NormalState, ObserverEvent, ObserverPoint, Polls, Pushes, Run, ServerState, Session, SessionState, StreamNames, acknowledged, false_from_ne_true, fold-append, is_over, mutated, mutator_next, mutator_start, observed, observer_next, observer_start, took, with_poll}
 use Rattle.af_told_law.specs.Leads.{HasLearnt, InStep, LeadAway}
 use Rattle.af_model.specs.declared.states.MutatorEvent.TheVariants as mutator
 use Rattle.af_model.specs.declared.states.ObserverEvent.TheVariants as observer

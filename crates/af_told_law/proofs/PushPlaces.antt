@@ -1,5 +1,5 @@
 -- Where a push leaves the items, and what it leaves of the pushes.
-use Rattle.std.proofs.Common.{◌≡◌, ℕ, zero, suc, ◌+◌, ◌<◌, ◌&&◌, ◌⊎◌, inl, inr, Bool, true, false, true≢false, is_some, if◌then◌else◌, refl, sym, ap, subst, ◌∙◌, List, [], ◌∷◌, ◌++◌, append_assoc, append-nil, replicate, Option, Some, None, eq-eqb, ne_eqb, arith}
+use Rattle.std.proofs.Common.{◌≡◌, ℕ, zero, suc, ◌+◌, ◌<◌, ◌⊎◌, inl, inr, Bool, true, false, true≢false, is_some, if◌then◌else◌, refl, sym, ap, subst, ◌∙◌, List, [], ◌∷◌, ◌++◌, append_assoc, append-nil, replicate, Option, Some, None, eq-eqb, ne_eqb, arith}
 use Rattle.af_told_law.proofs.Common.{AreOf, Busy, Clean, Mutates, NormalState, Push, Pushed, SeesIt, ServerState, StreamNames, WasPushed, at, both_first, carries, in_queue, is_pushed, kept_of, push_list, pushes, saw, shows, slots}
 use Rattle.af_model.specs.declared.states.MutatorEvent.TheVariants as mutator
 use Rattle.af_normal.specs.Mutating.{Pushes}

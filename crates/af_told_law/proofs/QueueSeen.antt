@@ -1,5 +1,5 @@
 -- What the two lists of a queue say of each other: no more states were acknowledged than pushed, and no look saw more acknowledged than were.
-use Rattle.std.proofs.Common.{◌≡◌, ℕ, ◌≤◌, List, [], ◌∷◌, ◌++◌, Option, ap, subst, ◌∙◌, arith}
+use Rattle.std.proofs.Common.{ℕ, ◌≤◌, List, [], ◌∷◌, ◌++◌, Option, ap, subst, ◌∙◌, arith}
 use Rattle.af_told_law.proofs.Common.{Event, FastState, HasStateHistory, Legal, MutatorEvent, ObserverEvent, ObserverPoint, QueuePoint, SawAck, ServerState, after_twos, legal, mutated, next, observed, one, ones, point_after, start_of_queue, two}
 use Rattle.af_model.specs.declared.states.MutatorEvent.TheVariants.{Push}
 use Rattle.af_model.specs.declared.states.MutatorEvent.TheVariants as mutator

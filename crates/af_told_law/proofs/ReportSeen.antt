@@ -1,6 +1,6 @@
 -- A turn of the normal mixer between two rounds loads the last report that was stored.
 use Rattle.std.proofs.Common.{◌≡◌, ⊎_elim, ℕ, suc, ◌+◌, fold, List, [], ◌∷◌, ◌++◌, length, refl, sym, ap, ◌∙◌, append_assoc, arith}
-use Rattle.af_told_law.proofs.Common.{AreTogether, CycleEntry, Links, Load, NormalState, ReaderEvent, Report, ReportTold, Run, Session, SessionState, Store, TrackKept, WriterEvent, last_of, last_report, max, min, most_round_cycles, no_report, one, ones, report_at, report_met, report_of, slot_number, stores, track_at, two, twos}
+use Rattle.af_told_law.proofs.Common.{AreTogether, CycleEntry, Links, Load, NormalState, ReaderEvent, Report, ReportTold, Run, Session, SessionState, Store, TrackKept, WriterEvent, last_of, last_report, max, min, most_round_cycles, no_report, ones, report_at, report_met, report_of, slot_number, stores, track_at, twos}
 use Rattle.af_model.specs.declared.newest.ReaderEvent.TheVariants as reads
 use Rattle.af_model.specs.declared.newest.WriterEvent.TheVariants as writes
 use Rattle.af_model.specs.NewestValue as newest

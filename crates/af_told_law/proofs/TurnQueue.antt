@@ -1,6 +1,6 @@
 -- What a turn of the normal mixer does at its end of the queue is told by the run, and known again after it.
 use Rattle.std.proofs.Common.{◌≡◌, ◌≢◌, ℕ, ◌+◌, ◌-◌, ◌<◌, ◌≤◌, ◌==◌, ◌&&◌, ◌||◌, not, Bool, true, false, true≢false, if◌then◌else◌, map, List, [], ◌∷◌, ◌++◌, length, Option, refl, sym, ap, subst, ◌∙◌, append-nil, arith}
-use Rattle.af_told_law.proofs.Common.{Busy, Clean, FastState, Item, KeepsMutator, Learnt, LegalPush, MutatorEvent, NormalKept, NormalState, Outside, Push, Pushed, QueueTold, Run, ServerState, Setup, Turn, after_edits, brought_by, eq-eqb, going, initial, is_look_at, is_pushed, items_of, kept_of, learnt, length-append, list_any, list_any-append, map-append, marked, marked_event, mutator_does, mutator_list, ne_eqb, number_seen, one, ones, or_false, or_true, push_list, setup_of, state_at, state_more, unwrap_or, was_seen}
+use Rattle.af_told_law.proofs.Common.{Busy, Clean, FastState, Item, KeepsMutator, Learnt, LegalPush, MutatorEvent, NormalKept, NormalState, Outside, Push, Pushed, QueueTold, Run, ServerState, Setup, Turn, after_edits, brought_by, eq-eqb, going, initial, is_look_at, is_pushed, items_of, kept_of, learnt, length-append, list_any, list_any-append, map-append, marked, marked_event, mutator_does, mutator_list, ne_eqb, number_seen, ones, or_false, or_true, push_list, setup_of, state_at, state_more, unwrap_or, was_seen}
 use Rattle.af_model.specs.declared.states.MutatorEvent.TheVariants as mutator
 use Rattle.af_told_law.specs.QueueTurned.{QueueKnown}
 use Rattle.af_judge.proofs.QueueSteps.{ones_more}

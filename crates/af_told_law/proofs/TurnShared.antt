@@ -1,6 +1,6 @@
 -- After a turn of the normal mixer the run with this turn tells the ends of the queue, the report and the pipe, and the two mixers.
 use Rattle.std.proofs.Common.{Bool, List, [], ap, false, if◌then◌else◌, length, map, refl, subst, sym, true, true≢false, ℕ, ⊎_elim, ◌++◌, ◌∙◌, ◌∷◌, ◌≡◌, ◌⊎◌}
-use Rattle.af_told_law.proofs.Common.{ClientEvent, ClientPart, Frame, IsLegal, NormalState, Outside, Run, Session, SessionState, Setup, Turn, front_by_room, going, one, ones, packed_word, pipe_cells, pipe_list, pipe_size, pipe_turned, put_by, releases_of, room_by, turn_of, two, twos}
+use Rattle.af_told_law.proofs.Common.{ClientEvent, ClientPart, Frame, IsLegal, NormalState, Outside, Run, Session, SessionState, Setup, Turn, front_by_room, going, ones, packed_word, pipe_cells, pipe_list, pipe_size, pipe_turned, put_by, releases_of, room_by, turn_of, twos}
 use Rattle.af_base.specs.declared.event.ClientEvent.TheVariants as client
 use Rattle.af_runs.specs.Sessions.{setup_of}
 use Rattle.af_told_law.specs.Tells.{Tells}

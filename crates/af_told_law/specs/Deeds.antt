@@ -1,5 +1,5 @@
 -- What the servers of a session's blocks did, wherever their proxies are, and what a run tells of it.
-use Rattle.std.specs.Prelude.{◌≡◌, ℕ, ◌<◌, true, if◌then◌else◌, List, [], ◌∷◌, ◌++◌, length}
+use Rattle.std.specs.Prelude.{◌≡◌, ℕ, ◌<◌, true, List, ◌++◌, length}
 use Rattle.af_base.specs.declared.event.ServerEvent.{ServerEvent}
 use Rattle.af_cblk.specs.Rule.{StartsWith}
 use Rattle.af_life.specs.Heard.{learnt}

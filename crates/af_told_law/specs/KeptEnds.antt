@@ -1,5 +1,5 @@
 -- When the lists that the ends of a session keep are those of the run that its journal tells.
-use Rattle.std.specs.Prelude.{◌≡◌, ℕ, ◌<◌, true, slice_get, Some}
+use Rattle.std.specs.Prelude.{◌≡◌, ℕ, true, slice_get, Some}
 use Rattle.af_normal.specs.LegalTurned.{hand_events}
 use Rattle.af_normal.specs.Mixing.{stream_at}
 use Rattle.af_normal.specs.State.{NormalState}

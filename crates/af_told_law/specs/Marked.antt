@@ -1,5 +1,5 @@
 -- Rounds and runs in which no lawful block is poked.
-use Rattle.std.specs.Prelude.{◌≡◌, ℕ, ◌<◌, true, false, List, [], ◌∷◌, length, slice_index_or}
+use Rattle.std.specs.Prelude.{◌≡◌, ℕ, ◌<◌, true, false, List, [], length, slice_index_or}
 use Rattle.std.specs.List.{list_any}
 use Rattle.af_base.specs.declared.event.ClientCall.{ClientCall}
 use Rattle.af_runs.specs.Blocks.{Marks, is_tame}

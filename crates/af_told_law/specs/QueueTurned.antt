@@ -1,5 +1,5 @@
 -- What a turn of the normal mixer does at its end of the queue, and what the run keeps of it.
-use Rattle.std.specs.Prelude.{◌≡◌, ◌⊎◌, ℕ, ◌-◌, ◌<◌, ◌==◌, ◌&&◌, ◌||◌, false, if◌then◌else◌, [], ◌++◌, length}
+use Rattle.std.specs.Prelude.{◌≡◌, ◌⊎◌, ℕ, ◌-◌, ◌<◌, ◌==◌, ◌||◌, false, [], length}
 use Rattle.af_normal.specs.State.{NormalState}
 use Rattle.af_runs.specs.Runs.{Run}
 use Rattle.af_runs.specs.Told.{ReportTold, report_met, state_at, was_seen}

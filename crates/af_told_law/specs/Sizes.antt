@@ -1,5 +1,5 @@
 -- How large the blocks of a session and of a run may be.
-use Rattle.std.specs.Prelude.{◌≡◌, ℕ, ◌<◌, ◌≤◌, length}
+use Rattle.std.specs.Prelude.{ℕ, ◌<◌, ◌≤◌, length}
 use Rattle.af_runs.specs.Runs.{Run, TrackTold, told_at}
 
 -- a track whose blocks have no more frames than a block may have

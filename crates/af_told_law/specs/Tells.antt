@@ -23,7 +23,6 @@ use Rattle.af_runs.specs.Runs.{Run, TrackTold, fast_ended, frames_before, last_r
 use Rattle.af_runs.specs.Sessions.{Session, cycle_frames, setup_of, track_count}
 use Rattle.af_runs.specs.Told.{Item, state_at}
 use Rattle.af_server.specs.Order.{ServerState}
-use Rattle.af_stateq.specs.Ends.{acknowledged, took}
 use Rattle.af_stateq.specs.Laws.{pushed_states}
 use Rattle.af_stateq.specs.Mutates.{at}
 use Rattle.af_engine.specs.Met.{item_at, slot_for}
