@@ -47,11 +47,11 @@ quiet_ends run = by_end run.normal.ended
     by_end true = record { states = refl; looks = (λ k. refl) }
     by_end false = record { states = refl; looks = (λ k. refl) }
 
-quiet_poll : (s : Session) (k : ℕ) (run : Run) → Quiet run (with_poll s k run)
+pub quiet_poll : (s : Session) (k : ℕ) (run : Run) → Quiet run (with_poll s k run)
 unfolding with_poll
 quiet_poll s k run = record { states = refl; looks = looks_observed run.queue _ }
 
-quiet_mix : (s : Session) (e : EntrySeen) (run : Run) → Quiet run (with_mix s e run)
+pub quiet_mix : (s : Session) (e : EntrySeen) (run : Run) → Quiet run (with_mix s e run)
 unfolding with_mix
 quiet_mix s e run = record { states = refl; looks = (λ k. refl) }
 

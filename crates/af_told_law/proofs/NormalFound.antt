@@ -1,5 +1,5 @@
 -- What a legal turn of a session's normal mixer saw is what its run has found.
-use Rattle.std.proofs.Common.{Bool, None, Option, Some, ap, arith, false, if◌then◌else◌, is_some, length, not, refl, slice_get, subst, sym, true, true≢false, ℕ, ◌&&◌, ◌++◌, ◌<◌, ◌∙◌, ◌≡◌}
+use Rattle.std.proofs.Common.{Bool, Some, ap, arith, false, if◌then◌else◌, length, not, refl, slice_get, subst, sym, true, ℕ, ◌&&◌, ◌++◌, ◌<◌, ◌∙◌, ◌≡◌}
 use Rattle.af_told_law.proofs.Common.{AreTogether, BlockTold, GoesOn, IsLegal, LegalTurnBy, Links, Listed, Marks, NormalKept, NormalState, Outside, PartyState, Run, ServerState, Session, SessionState, Setup, TrackKept, Turn, TurnFound, after_ack, carries, in_hand, is_home, is_returning, kept_of, learnt, listed as told_list, listed_at, outside_of, server_begins, setup_of as mixer_setup, slot_number, some_at, stays_out, stream_at, takes_from, told_at, track_at, track_in, tracks_at, turn_of, welcomed, welcomed_at}
 use Rattle.af_runs.specs.Sessions.{setup_of}
 use Rattle.af_server.specs.Slot.{listed}
@@ -11,10 +11,7 @@ use Rattle.af_told_law.proofs.TurnFronts.{commands_told, stream_told}
 use Rattle.af_told_law.specs.Deeds.{Deeds, SawOwnBy, SawOwnOf, TrackDid, commands_by, deeds_turned, done_on, stream_by}
 use Rattle.af_told_law.proofs.MixLooks.{listed_real, own_split, real_list}
 use Rattle.af_told_law.specs.NormalLaws.{FindsBlocks, HeardAlike}
-
-there_some : {X : Type 0} (o : Option X) → is_some o ≡ true → (x : X) × (o ≡ Some x)
-there_some None e = absurd (true≢false (sym e))
-there_some (Some x) e = (x, refl)
+use Rattle.af_engine.proofs.Basics.{some_of}
 
 -- a track that isn't returning, or of which no acknowledgement was seen, stays as it is
 ack_stays : (ack : Bool) (m : NormalKept) (i : ℕ) → (ack && is_returning (track_at m.tracks i).holder) ≡ false → track_at (after_ack ack m).tracks i ≡ track_at m.tracks i
@@ -55,7 +52,7 @@ module _ (links : Links) (s : Session) (run : Run) {d : Deeds} (x : SessionState
       by_back true is = let here = comers i low is home in (here.0, ap listed_at here.1, here.2)
       by_back false is =
           let was : is_home (track_at m.tracks i).holder ≡ true = sym (ap (λ (t : TrackKept). is_home t.holder) (ack_stays e.ack m i is)) ∙ home in
-          let here = there_some (stream_at x.normal.streams i) (before.normal.tied.proxies.there i low ∙ was) in
+          let here = some_of (stream_at x.normal.streams i) (before.normal.tied.proxies.there i low ∙ was) in
           let client = client_at i low in
           (here.0, ap listed_at here.1, (told.tracks i client.0 client.1).stream.home here.0 here.1)
 

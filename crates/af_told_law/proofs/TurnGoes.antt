@@ -7,7 +7,7 @@ use Rattle.af_server.specs.Slot.{listed}
 use Rattle.af_normal.specs.Order.{IsInOrder}
 use Rattle.af_told_law.proofs.Places.{ComesFrom, IsLentBy, QueueGoes, SlotsStand, StaysAway, StreamsGo, enters_by, events_by, rests_by, slot_in, words_by}
 use Rattle.af_told_law.proofs.Basics.{went}
-use Rattle.af_told_law.proofs.AckPlaces.{Acked}
+use Rattle.af_told_law.proofs.AckPlaces.{Acked, first_look}
 use Rattle.af_told_law.proofs.HandedTurn as begin
 use Rattle.af_told_law.proofs.PollTold.{marks_are, marks_so}
 use Rattle.af_told_law.proofs.PushPlaces.{PutOn, is_busy}
@@ -23,9 +23,6 @@ words_are (take ∷ takes) = ap (λ (ws : List ℕ). map packed_word take.frames
 
 one_load : (n m : ℕ) (a b : Report) → Load n a ∷ [] ≡ Load m b ∷ [] → a ≡ b
 one_load n m a b e = cc
-
-first_look : (n : ℕ) (a b : List (Option ServerState)) (xs ys : List (MutatorEvent ServerState)) → mutator.SawAck n a ∷ xs ≡ mutator.SawAck n b ∷ ys → (a ≡ b) × (xs ≡ ys)
-first_look n a b xs ys e = (cc, cc)
 
 -- two pushes with equal lists send the same items
 same_sent : (push : Push) (m : NormalKept) (a b s t pending : List (Option ServerState)) → push_list m push a s ≡ push_list m push b t → in_queue push s pending ≡ in_queue push t pending
