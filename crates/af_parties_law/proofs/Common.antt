@@ -90,7 +90,7 @@ pub use Rattle.af_stateq.specs.Observes.{Observes}
 pub use Rattle.af_tally.specs.Summaries.{EntryUsed, Shown, calls_of, entry_looks, has_no_poke, is_poke, slot_looks, summary_of, take_look, turn_looks}
 unfoldable pub use Rattle.af_tally.specs.Summaries.{looks_by}
 pub use Rattle.af_told_law.proofs.MetOpen.{clients_ended, clients_met}
-pub use Rattle.af_told_law.proofs.Quiet.{mutated_none}
+pub use Rattle.af_told_law.proofs.NormalSteps.{all_push}
 pub use Rattle.af_told_law.specs.KeptEnds.{KeepsLists}
 pub use Rattle.std.proofs.lemmas.Bool.{and_from, and_parts, cases_eq, eqb-true}
 pub use Rattle.std.proofs.lemmas.Grind.{fold-append}

@@ -1,6 +1,6 @@
 -- In a run of all parties the journal records each push once, in order.
 use Rattle.std.proofs.Common.{◌≡◌, ℕ, zero, suc, ◌+◌, Bool, true, false, if◌then◌else◌, List, [], ◌∷◌, ◌++◌, length, length-append, drop, take, Some, None, refl, sym, ap, subst, ◌∙◌, append_assoc, append-nil, arith}
-use Rattle.af_parties_law.proofs.Common.{Busy, Clean, EndsState, EntrySeen, FastState, Frame, Given, IsRoundOfAll, JournalData, LegalPush, LegalTurn, MatchBool, NormalKept, NormalPlayed, NormalState, Outside, Push, Pushed, RoundNoted, RoundSeen, ScriptData, SessionState, Setup, Turn, TurnPlayed, after_edits, after_push, after_takes, ends_keep, flat_map, flat_map-cons, kept_of, learnt, map-range_with_len_more, mutated_none, pushed_states, rounds_seen, setup_of, turn_after, turn_noted, turn_of}
+use Rattle.af_parties_law.proofs.Common.{Busy, Clean, EndsState, EntrySeen, FastState, Frame, Given, IsRoundOfAll, JournalData, LegalPush, LegalTurn, MatchBool, NormalKept, NormalPlayed, NormalState, Outside, Push, Pushed, RoundNoted, RoundSeen, ScriptData, SessionState, Setup, Turn, TurnPlayed, after_edits, after_push, after_takes, ends_keep, flat_map, flat_map-cons, kept_of, learnt, map-range_with_len_more, all_push, pushed_states, rounds_seen, setup_of, turn_after, turn_noted, turn_of}
 use Rattle.af_playing.specs.PlayedRuns.{HandsBackRun, IsRunOfAll}
 use Rattle.af_parties_law.specs.Spelled.{PushesStandOnce, first_numbers, number_pushed, pushed_by, pushes_told}
 use Rattle.af_playing.proofs.ExitSeen.{Knowing, round_knows}
@@ -25,7 +25,7 @@ module _ (told : List ℕ) (c : Setup) (o : Outside) (m : NormalKept) (e : Turn)
     where
       by_end : (b : Bool) → e.ended ≡ b → told ++ number_pushed e.push ≡ first_numbers (if b then record m { ended = true } else after_takes c e.mixes (after_push e.push (after_edits c (learnt o) e m))).pushed
       by_end true ends = ap (λ (x : Turn). told ++ number_pushed x.push) (legal.still ends) ∙ append-nil told ∙ is
-      by_end false goes = by_push told (after_edits c (learnt o) e m) e.push (legal.goes_on goes).push (is ∙ ap first_numbers (sym (mutated_none c (learnt o) m e).pushed))
+      by_end false goes = by_push told (after_edits c (learnt o) e m) e.push (legal.goes_on goes).push (is ∙ ap first_numbers (sym (all_push c (learnt o) m e).pushed))
 
 normal_tells : (told : List ℕ) (m m' : NormalState) → NormalPlayed m m' → told ≡ first_numbers (kept_of m).pushed → told ++ pushed_by (turn_noted m m') ≡ first_numbers (kept_of m').pushed
 normal_tells told m m' played is = by_end m.ended played

@@ -3,8 +3,7 @@ use Rattle.std.proofs.Common.{◌≡◌, ℕ, zero, suc, ◌<◌, ◌==◌, ◌|
 use Rattle.af_parties_law.proofs.Common.{AddsCycle, ClientState, Cycle, CycleEntry, EntryUsed, FastState, HandSide, IsCycle, IsFastTurn, ItemStays, Links, Made, MeetsAway, Met, MixerState, NormalKept, NormalState, Observes, PartyState, Polls, ServerState, SessionState, Shown, Spot, SpotMet, StreamNames, Writes, WritesCycle, at, both_true, carries, client_made, cycle_sizes, cycle_whole, is_mixed, is_over, item_at, kept_of, list_all, list_all-append, none-some, proxies_of, same_Some, server_kept_of, shown_added, shown_adopted, shown_at, shown_met, shown_still, slot_for, slot_is, slot_of, spot_of, stream_at}
 use Rattle.af_parties_law.specs.Hostile.{is_spared_in_entry}
 use Rattle.af_render_law.proofs.FastCycle.{between_mixed}
-use Rattle.af_render_law.proofs.IdlePoll.{between_after, between_met, caught_met, same_found}
-use Rattle.af_render_law.specs.Laws.{IsBetween}
+use Rattle.af_render_law.proofs.IdlePoll.{IsBetween, between_after, between_met, caught_met, same_found}
 use Rattle.af_tally.specs.Sound.{IsWhole}
 use Rattle.af_parties_law.proofs.EntrySpared.{AreUnshut, entry_spares, unshut_before}
 use Rattle.af_parties_law.proofs.OpenCalls.{IsTame}

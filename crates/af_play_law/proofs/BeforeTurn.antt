@@ -1,6 +1,7 @@
 -- What the clients' calls and the early entries of a round leave of a run: the command blocks as the calls left them, and what is known of the queue.
-use Rattle.std.proofs.Common.{◌≡◌, ℕ, zero, suc, ◌+◌, List, [], ◌∷◌, refl, ap, ◌∙◌}
-use Rattle.af_play_law.proofs.Common.{EntrySeen, NormalState, QueueKnown, Quiet, RoundSeen, Run, Session, TrackTold, commands_stay, changed_from, is_look_at, known_same, list_any, mixed_track, no_track, ones_observed, quiet_then, slice_index_or, state_for, told_at, with_calls, with_cycle, with_cycles, with_mix, with_poll}
+use Rattle.std.proofs.Common.{◌≡◌, ℕ, zero, suc, ◌+◌, List, [], ◌∷◌, refl, ◌∙◌}
+use Rattle.af_play_law.proofs.Common.{EntrySeen, NormalState, QueueKnown, Quiet, RoundSeen, Run, Session, TrackTold, commands_stay, changed_from, known_same, mixed_track, no_track, quiet_then, slice_index_or, state_for, told_at, with_calls, with_cycle, with_cycles, with_mix, with_poll}
+use Rattle.af_told_law.proofs.KnownSteps.{quiet_mix, quiet_poll}
 
 -- ## The command blocks
 
@@ -23,14 +24,6 @@ cycles_commands s [] run i = refl
 cycles_commands s (e ∷ es) run i = cycles_commands s es (with_cycle s run e) i ∙ mix_commands s e (with_poll s e.entry.state run) i ∙ poll_commands s e.entry.state run i
 
 -- ## The queue
-
-quiet_poll : (s : Session) (k : ℕ) (run : Run) → Quiet run (with_poll s k run)
-unfolding with_poll
-quiet_poll s k run = record { states = refl; looks = (λ j. ap (list_any (is_look_at j)) (ones_observed run.queue _)) }
-
-quiet_mix : (s : Session) (e : EntrySeen) (run : Run) → Quiet run (with_mix s e run)
-unfolding with_mix
-quiet_mix s e run = record { states = refl; looks = (λ k. refl) }
 
 pub quiet_cycles : (s : Session) (es : List EntrySeen) (run : Run) → Quiet run (with_cycles s es run)
 quiet_cycles s [] run = record { states = refl; looks = (λ k. refl) }

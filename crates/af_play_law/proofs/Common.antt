@@ -96,21 +96,23 @@ pub use Rattle.af_stateq.specs.Answers.{TakesIt, WasPolled, sees_same}
 pub use Rattle.af_stateq.specs.Ends.{Polls, Pushes, acknowledged, took}
 pub use Rattle.af_stateq.specs.Laws.{is_push}
 pub use Rattle.af_stateq.specs.Observes.{Observes}
-pub use Rattle.af_told_law.proofs.Basics.{commands_stay, no_exit, ones_observed, own_met, same_last}
+pub use Rattle.af_told_law.proofs.Basics.{commands_stay, met_deed, no_exit, own_met, same_last}
 pub use Rattle.af_told_law.proofs.KnownSteps.{Quiet, known_new, known_same, quiet_ends, quiet_met, quiet_then, report_ends}
 pub use Rattle.af_told_law.proofs.MarkedRuns.{new_marked, round_marked}
 pub use Rattle.af_told_law.proofs.NewTold.{new_told, no_deeds}
 pub use Rattle.af_told_law.proofs.QueueLooks.{IsSane, history_sane, point_of}
 pub use Rattle.af_told_law.proofs.TameRuns.{met_marked, small_told}
 pub use Rattle.af_told_law.specs.Between.{IsQuiet, StandsBefore, StandsBetween}
-pub use Rattle.af_told_law.specs.Deeds.{Deeds, GoOn, MetTold, SawOwnBy, SawOwnOf, commands_by, deeds_met, done_on, met_deed, stream_by}
+pub use Rattle.af_told_law.specs.Deeds.{Deeds, GoOn, SawOwnBy, SawOwnOf, commands_by, done_on, stream_by}
+pub use Rattle.af_told_law.proofs.AllMeet.{MetTold}
+pub use Rattle.af_told_law.proofs.TrackMeets.{deeds_met}
 pub use Rattle.af_told_law.specs.Marked.{IsMarkedRun, IsRoundMarked, IsTrackMarked}
 pub use Rattle.af_told_law.specs.MixLaws.{TookCounted, entry_told}
-pub use Rattle.af_told_law.specs.NormalLaws.{PartsTold, ShowsFront, TurnShown, did_by}
-pub use Rattle.af_told_law.specs.Outsides.{FindsBlocks, HeardAlike}
+pub use Rattle.af_told_law.specs.NormalLaws.{FindsBlocks, HeardAlike, PartsTold, ShowsFront, TurnShown, did_by}
 pub use Rattle.af_told_law.specs.QueueTurned.{QueueKnown, ReportMet}
 pub use Rattle.af_told_law.specs.Sizes.{IsSmallRun, IsTrackSmall}
-pub use Rattle.af_told_law.specs.Tells.{FindsLast, Leaves, Tells, TellsServer, TellsStream, TellsTrack, given_of, held_slot, items_sent, mutated_by, reports_stored}
+pub use Rattle.af_told_law.specs.Tells.{Leaves, Tells, TellsServer, TellsStream, TellsTrack, given_of, held_slot, items_sent, mutated_by, reports_stored}
+pub use Rattle.af_told_law.proofs.PollNew.{FindsLast}
 pub use Rattle.af_turn_law.proofs.Basics.{tame_met}
 pub use Rattle.std.proofs.Math.Seq.{drop-append_seam}
 pub use Rattle.std.proofs.lemmas.Bool.{and_from, and_parts, cases_eq, cases_lt, eq-eqb, eqb-true, false_from_ne_true, leb-false, leb-true, ne_eqb}

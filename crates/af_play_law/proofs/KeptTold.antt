@@ -3,8 +3,8 @@ use Rattle.std.proofs.Common.{◌≡◌, ℕ, ◌<◌, true, false, is_some, Lis
 use Rattle.af_play_law.proofs.Common.{Deeds, Links, Marks, NormalKept, NormalState, RoundSeen, Run, SawOwnOf, ServerState, Session, SessionState, Shape, Tells, TrackKept, TrackTold, after_round, all_played, ends_keep, observer_holds, is_home, is_tame, marks_of, met, met_at, met_many, new_run, no_deeds, or_left, run_from, session_of, stream_at, takes_part, tame_met, told_at, track_at, track_count, with_ends as run_ends}
 use Rattle.af_session.specs.Ends.{ends_from}
 use Rattle.af_session.specs.Rounds.{with_ends}
-use Rattle.af_told_law.specs.KeptEnds.{KeepsLists, SawAtHome}
-use Rattle.af_told_law.proofs.EndsKept.{ends_keep_lists}
+use Rattle.af_told_law.specs.KeptEnds.{KeepsLists}
+use Rattle.af_told_law.proofs.EndsKept.{SawAtHome, ends_keep_lists}
 use Rattle.af_told_law.proofs.TrackMeets.{tracks_are}
 use Rattle.af_play_law.specs.KeptPlays.{PlaysKeepTheirLists}
 use Rattle.af_play_law.specs.PlayRuns.{PlaysOn}

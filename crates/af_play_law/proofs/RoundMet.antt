@@ -3,10 +3,9 @@ use Rattle.std.proofs.Common.{◌≡◌, ℕ, zero, suc, ◌+◌, ◌<◌, ◌�
 use Rattle.af_play_law.proofs.Common.{AllZip, AreLegalTurns, BlockTold, ClientCall, ClientPlayed, CycleEntry, CyclesOn, Deeds, EntrySeen, GoOn, IsFastTurn, IsSmallRun, IsTrackSmall, LeadAway, LegalClientTurn, LegalEntries, LegalFastTurn, Links, Marks, MatchBool, MayFollow, MetTold, MixerState, NormalKept, PartyState, RoundSeen, Run, SawOwnBy, SawOwnOf, ServerEvent, ServerState, Session, SessionState, Shape, StartsWith, Tells, TellsServer, Track, TrackTold, after_round, after_turn, all_ended, all_played, append_cancel_left, before_turn, calls_in, carries, client_list, deeds_met, done_on, drop-append_seam, each_long, each_track, early_of, ends, entries_seen, eq-eqb, file_at, fills, given_of, held_slot, is_home, is_lawful, is_tame, item_at, late_of, length-map, list_any, met, met_at, met_deed, met_many, most_cycles, none-some, ops_at, own_met, range_with_len, same_Some, shape_met, sides_of, slot_of, slots, small_told, some_at, stream_at, takes_part, told_at, told_each, track_at, track_count, track_of, with_calls, with_cycles, with_ends}
 use Rattle.af_base.specs.declared.event.ServerEvent.TheVariants as server
 use Rattle.af_session.specs.Rounds as parties
-use Rattle.af_told_law.specs.Own.{SawOwn, SeesOwn}
+use Rattle.af_told_law.proofs.MeetsShow.{SawOwn, SeesOwn, meetings_show}
 use Rattle.af_told_law.proofs.AllMeet.{met_histories, tells_met}
 use Rattle.af_told_law.proofs.EndsTold.{ends_told}
-use Rattle.af_told_law.proofs.MeetsShow.{meetings_show}
 use Rattle.af_told_law.proofs.SlotHeld.{found_carries, is_held}
 use Rattle.af_play_law.specs.Rounds.{RoundIsTold}
 use Rattle.af_play_law.specs.RoundPlayed.{HearsForeseen, PlayStands, RoundPlayed}

@@ -38,7 +38,8 @@ pub use Rattle.af_rendering.proofs.FirstRound.{empty_first, frames_first, ready_
 pub use Rattle.af_rendering.proofs.JournalSound.{dealt, journal_form, journal_sounds, journal_whole, same_entries}
 pub use Rattle.af_rendering.proofs.NotedRounds.{cause_never, cause_on, few_noted, left_whole, then_memory}
 pub use Rattle.af_rendering.proofs.Outgoing.{on_err, stays_at}
-pub use Rattle.af_told_law.proofs.Quiet.{mutated_none, push_clean, turn_quiet}
+pub use Rattle.af_told_law.proofs.NormalSteps.{all_push}
+pub use Rattle.af_told_law.proofs.Quiet.{push_clean, turn_quiet}
 pub use Rattle.af_told_law.specs.Between.{IsQuiet}
 pub use Rattle.af_rendering.proofs.RoundForms.{AreNoted, Notes, noted_more, noted_none}
 pub use Rattle.af_rendering.proofs.ShownWhole.{AreInStep, in_step_met, in_step_new, places_first, released_few, steps_told, tally_first, tally_pushed}

@@ -1,7 +1,7 @@
 -- The rounds of a run of all parties are those that its journal records, one after the other.
 use Rattle.std.proofs.Common.{◌≡◌, ℕ, zero, suc, ◌+◌, ◌-◌, if◌then◌else◌, Bool, true, false, List, [], ◌∷◌, length, map, option_map, take, drop, Some, slice_get, refl, sym, ap, subst, ◌∙◌, arith}
 use Rattle.af_playing.proofs.Common.{ClientCall, CyclesOn, CyclesOnce, EntrySeen, FastTurned, GrowsBy, IsRoundOfAll, Links, Logged, Marks, MatchBool, MixerState, PartyState, PlaysOn, RoundNoted, Session, SessionState, end_party, entries_grown, entries_seen, get_or_from_slice_get, grows_none, grows_then, is_mixed, length-append, mix_grows, most_cycles, polled_keeps, rounds_seen, slice_get-map, slice_index_or, with_ends}
-use Rattle.af_told_law.specs.Marked.{AreRoundsMarked}
+use Rattle.af_told_law.proofs.MarkedRuns.{AreRoundsMarked}
 use Rattle.af_told_law.specs.Tells.{given_of}
 use Rattle.af_told_law.proofs.EntriesDealt.{first_dealt, rest_dealt}
 use Rattle.af_play_law.specs.RoundPlayed.{RoundPlayed}

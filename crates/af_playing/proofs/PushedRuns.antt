@@ -1,6 +1,6 @@
 -- What a mixer pushed: no state before the last one says Exit.
 use Rattle.std.proofs.Common.{◌≡◌, ℕ, zero, suc, ◌+◌, ◌<◌, ◌==◌, ◌&&◌, ◌||◌, Bool, true, false, if◌then◌else◌, sym, refl, ap, subst, ◌∙◌, List, [], ◌∷◌, ◌++◌, length, length-append, append-nil, Option, arith}
-use Rattle.af_playing.proofs.Common.{AllByRecursion, Busy, Clean, FastState, IsQuiet, LegalTurn, MutatorEvent, NormalKept, Outside, Push, Pushed, Setup, Turn, after_edits, after_push, after_takes, commands_exit, learnt, mutated_none, mutator_list, no, number_seen, push_clean, push_list, pushed_states, turn_after}
+use Rattle.af_playing.proofs.Common.{AllByRecursion, Busy, Clean, FastState, IsQuiet, LegalTurn, MutatorEvent, NormalKept, Outside, Push, Pushed, Setup, Turn, after_edits, after_push, after_takes, commands_exit, learnt, all_push, mutator_list, no, number_seen, push_clean, push_list, pushed_states, turn_after}
 use Rattle.af_model.specs.declared.states.MutatorEvent.TheVariants as mutator
 
 -- none of these states says Exit
@@ -62,7 +62,7 @@ module _ {P : Type 0} (c : Setup) (o : Outside) (m : NormalKept) (e : Turn) (bac
 
   edits_run : PushedRuns edits.pushed edits.last states
   unfolding edits
-  edits_run = let same = mutated_none c (learnt o) m e in subst (λ (x : ℕ × FastState). PushedRuns x.0 x.1 states) (λ i. (sym same.pushed i, sym same.last i)) runs
+  edits_run = let same = all_push c (learnt o) m e in subst (λ (x : ℕ × FastState). PushedRuns x.0 x.1 states) (λ i. (sym same.pushed i, sym same.last i)) runs
 
   -- if a state is pushed, the last one before it didn't say Exit
   pushed_runs : (number : ℕ) → e.ended ≡ false → e.push ≡ Pushed number → commands_exit edits.last ≡ false
@@ -71,7 +71,7 @@ module _ {P : Type 0} (c : Setup) (o : Outside) (m : NormalKept) (e : Turn) (bac
     where
       by_exit : (b : Bool) → commands_exit m.last ≡ b → commands_exit (after_edits c (learnt o) e m).last ≡ false
       by_exit true exit = no (ap is_clean (sym is ∙ push_clean c o m e quiet exit (legal.goes_on goes)))
-      by_exit false exit = ap commands_exit (mutated_none c (learnt o) m e).last ∙ exit
+      by_exit false exit = ap commands_exit (all_push c (learnt o) m e).last ∙ exit
 
   by_zero : (b : Bool) (number : ℕ) (x : NormalKept) → pushed_states ((if b then [] else mutator.SawAck x.pushed again ∷ []) ++ mutator.Push number x.draft sent ∷ []) ≡ x.draft ∷ []
   by_zero true number x = refl

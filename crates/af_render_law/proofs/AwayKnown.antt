@@ -1,15 +1,18 @@
 -- After the meetings of all parties the hands know what the proxies that missed them had done.
 use Rattle.std.proofs.Common.{◌≡◌, ℕ, ◌<◌, true, List, length, slice_get, Option, Some, None, sym, ap, ◌∙◌, subst, arith}
-use Rattle.af_render_law.proofs.Common.{AreTogether, ClientState, FastState, HandSide, Links, MeetsAway, Met, MixerState, NormalState, ServerState, SessionState, Spot, SpotMet, TrackKept, client_made, clients_ended, ends_keep, held_slot, is_lawful, item_at, none-some, proxies_of, same_Some, slice_get_within, slot_for, some_at, spot_of, stream_at}
+use Rattle.af_render_law.proofs.Common.{AreTogether, ClientState, FastState, HandSide, Links, MeetsAway, Met, MixerState, NormalState, PartyState, ServerState, SessionState, Spot, SpotMet, TrackKept, client_made, clients_ended, ends_keep, held_slot, is_lawful, item_at, none-some, proxies_of, same_Some, slice_get_within, slot_for, some_at, spot_of, stream_at}
 use Rattle.af_model.specs.History.{HasHistory}
 use Rattle.af_normal.specs.Meeting.{MeetsStream}
 use Rattle.af_session.specs.Rounds.{with_ends}
-use Rattle.af_render_law.specs.Aware.{KnowsAway}
 use Rattle.af_told_law.proofs.TrackMeets.{tracks_are}
 
 -- the history that the hand's meeting with the client gave
 abbrev pub KnownBy : ClientState → HandSide → Type 0
 KnownBy d h = is_lawful d.pass.part.events ≡ true → let c = d.pass.part in (taken : List ℕ) × HasHistory c.shape c.events c.frames h.known taken h.part.events
+
+-- if a stream proxy is neither home nor held, and its client has not poked, the client's list and the hand's have a history with the server's list as the hand knows it
+abbrev pub KnowsAway : SessionState → Type 0
+KnowsAway x = (i : ℕ) (p : PartyState) (h : HandSide) → slice_get x.clients i ≡ Some p → slice_get x.normal.hands i ≡ Some h → stream_at x.normal.streams i ≡ None → item_at x.fast.observer.items (held_slot x.fast i) ≡ None → KnownBy p.stream h
 
 module _ (c d : ClientState) where
   -- a proxy that is home meets, and stays

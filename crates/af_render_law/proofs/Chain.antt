@@ -1,11 +1,22 @@
 -- What is known of a session and of the run that tells it between two rounds of a script, by the marks of its lawful blocks.
-use Rattle.af_render_law.proofs.Common.{EntrySeen, IsMarkedRun, IsRound, IsSmallRun, List, Marks, PartyState, QueueKnown, ReportMet, RoundNoted, Run, Session, SessionState, Some, StandsBetween, cycle_frames, entries_grown, false, given_of, length, met_alone, pipe_cells, setup_of, slice_get, with_ends, ℕ}
-use Rattle.std.specs.Prelude.{◌≡◌, ◌+◌, ◌≤◌}
+use Rattle.af_render_law.proofs.Common.{EntrySeen, FindsShutUnseen, HaveHistories, IsMadeBy, IsMarkedRun, IsRound, IsSmallRun, List, Marks, PartyState, QueueKnown, ReportMet, RoundNoted, RoundSeen, Run, Session, SessionState, Some, StandsBetween, Turn, TurnSpec, cycle_frames, entries_grown, false, found_before, given_of, length, met_alone, pipe_cells, setup_of, slice_get, with_ends, ℕ}
+use Rattle.std.specs.Prelude.{◌≡◌, ◌+◌, ◌≤◌, take, []}
 use Rattle.af_script.specs.declared.op.TurnSpec.TheVariants as makes
-use Rattle.af_render_law.specs.Aware.{KnowsAway}
-use Rattle.af_render_law.specs.Laws.{StepIsTold, ToldBy, round_of}
+use Rattle.af_render_law.proofs.AwayKnown.{KnowsAway}
+use Rattle.af_render_law.proofs.OwnKept.{ToldBy}
 use Rattle.af_render_law.proofs.InvalidKept.{InvalidKept}
 use Rattle.af_render_law.proofs.TameRounds.{TameReady}
+
+-- a round as the journal has it, if these entries are left
+abbrev pub round_of : RoundNoted → List EntrySeen → RoundSeen
+round_of r entries = record { calls = r.calls; turn = r.turn; entries = take r.cycles entries }
+
+-- A turn of one party is made legally after this run, the lists have their histories after it, and the run after the round tells the session y. Of a track that a turn of the normal mixer finds shut as its stream proxy comes home, the client has not seen INVALID
+pub record StepIsTold (s : Session) (marks : Marks) (run : Run) (turn : TurnSpec) (round : RoundSeen) (y : SessionState) : Type 0 where
+  pub made : IsMadeBy s marks run turn round
+  pub histories : HaveHistories s (met_alone s run turn round)
+  pub left : ToldBy s (with_ends (met_alone s run turn round)) y
+  pub unseen : (e : Turn) → round.turn ≡ Some e → FindsShutUnseen s run (found_before s run [] e) e
 
 -- each client counts the frames that it released
 abbrev pub AreCounted : SessionState → Type 0

@@ -2,9 +2,9 @@
 use Rattle.std.proofs.Common.{◌≡◌, ◌⊎◌, inl, inr, ℕ, zero, suc, ◌<◌, take, replicate, List, [], length, refl, sym, ap, ◌∙◌, subst, arith, get_or-set_other, get_or-set_same}
 use Rattle.af_render_law.proofs.Common.{AreTogether, ClientCall, ClientTurned, Deeds, EntrySeen, IsMadeBy, IsRound, LegalClientTurn, Links, Marks, OnlyCalls, RoundNoted, RoundSeen, Run, SawOwnBy, Session, SessionState, Tells, Track, calls_alone, calls_in, cases_eq, client_round, given_of, length-replicate, no_calls, none-some, slice_get_within, slice_index_or, tame_marks}
 use Rattle.af_script.specs.declared.op.TurnSpec.TheVariants as makes
-use Rattle.af_render_law.specs.Laws.{StepIsTold, ToldBy, round_of}
+use Rattle.af_render_law.proofs.OwnKept.{ToldBy, left_histories, left_met, saw_calls}
+use Rattle.af_render_law.proofs.Chain.{StepIsTold, round_of}
 use Rattle.af_told_law.proofs.ClientTold.{client_told}
-use Rattle.af_render_law.proofs.OwnKept.{left_histories, left_met, saw_calls}
 
 pub none_else : (n j : ℕ) → slice_index_or (replicate n (let none : List ClientCall = [] in none)) j [] ≡ []
 none_else zero j = refl

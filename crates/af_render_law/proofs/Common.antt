@@ -92,25 +92,27 @@ pub use Rattle.af_session.specs.Shown.{released_by, shown_by, shows, summary_tol
 pub use Rattle.af_session.specs.Together.{AreTogether, SessionState}
 pub use Rattle.af_stateq.specs.Ends.{Polls, Pushes}
 pub use Rattle.af_stateq.specs.Observes.{Observes}
-pub use Rattle.af_told_law.proofs.Basics.{own_join, own_met, same_last}
+pub use Rattle.af_told_law.proofs.Basics.{met_deed, own_join, own_met, same_last}
 pub use Rattle.af_told_law.proofs.FastForm.{AreTurn, form_seen, mixed_entry}
 pub use Rattle.af_told_law.proofs.FastGrows.{adds, frames_grow, frames_more, one_more, same_frames, still_on, still_room, still_runs, taken, taken_long}
 pub use Rattle.af_told_law.proofs.KnownSteps.{Quiet, known_new, known_same, quiet_calls, quiet_cycles, quiet_ends, quiet_met, quiet_then}
 pub use Rattle.af_told_law.proofs.LogMore.{GrowsBy, all_asked, asked_by, entries_grown, round_grows, run_grows}
-pub use Rattle.af_told_law.proofs.MarkedRuns.{marks_free, new_marked, round_marked}
-pub use Rattle.af_told_law.proofs.MeetsShow.{meetings_show}
+pub use Rattle.af_told_law.proofs.MarkedRuns.{AreRoundsMarked, marks_free, new_marked, round_marked}
+pub use Rattle.af_told_law.proofs.MeetsShow.{AreSmall, SawOwn, SeesOwn, meetings_show}
 pub use Rattle.af_told_law.proofs.PartsTold.{parts_told}
 pub use Rattle.af_told_law.proofs.SlotHeld.{found_carries, is_held}
 pub use Rattle.af_told_law.proofs.SmallRuns.{new_small, round_small}
 pub use Rattle.af_told_law.proofs.TameRuns.{met_marked, mix_marked, poll_marked, small_told}
 pub use Rattle.af_told_law.specs.Between.{IsQuiet, StandsBefore, StandsBetween}
-pub use Rattle.af_told_law.specs.Deeds.{Deeds, MetTold, SawOwnBy, SawOwnOf, deeds_met, done_on, met_deed, stream_by, tame_marks}
-pub use Rattle.af_told_law.specs.Marked.{AreRoundsMarked, IsMarkedRun, IsRoundMarked}
+pub use Rattle.af_told_law.specs.Deeds.{Deeds, SawOwnBy, SawOwnOf, done_on, stream_by}
+pub use Rattle.af_told_law.proofs.EndsKept.{tame_marks}
+pub use Rattle.af_told_law.proofs.AllMeet.{MetTold}
+pub use Rattle.af_told_law.proofs.TrackMeets.{deeds_met}
+pub use Rattle.af_told_law.specs.Marked.{IsMarkedRun, IsRoundMarked}
 pub use Rattle.af_told_law.specs.MixLaws.{MixesAreTold, entry_told}
 pub use Rattle.af_told_law.specs.NormalLaws.{HearsFound, PartsAreTold, PartsTold, ShowsFront, TurnShown, did_by}
-pub use Rattle.af_told_law.specs.Own.{SawOwn, SeesOwn}
 pub use Rattle.af_told_law.specs.QueueTurned.{QueueKnown, ReportMet}
-pub use Rattle.af_told_law.specs.Sizes.{AreSmall, IsSmallRun}
+pub use Rattle.af_told_law.specs.Sizes.{IsSmallRun}
 pub use Rattle.af_told_law.specs.Tells.{Leaves, Tells, TellsServer, given_of, held_slot}
 pub use Rattle.af_turn_law.proofs.RunBegins.{forced_run, turns_new}
 pub use Rattle.af_turn_law.proofs.RunPolls.{AllFind, all_find, pushed_in, same_current}

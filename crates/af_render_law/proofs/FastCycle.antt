@@ -2,11 +2,10 @@
 use Rattle.std.proofs.Common.{List, None, [], ap, arith, false, length, subst, sym, ℕ, ◌++◌, ◌<◌, ◌∙◌, ◌∷◌, ◌≡◌}
 use Rattle.af_render_law.proofs.Common.{AreSmall, AreTogether, Cycle, CycleEntry, Deeds, EntrySeen, Frame, HasStateHistory, InStep, IsCycle, IsMarkedRun, LeadAway, Leaves, LegalEntry, Links, Marks, MixerState, MixesAreTold, Observes, Polls, Run, SawOwnBy, SawOwnOf, SeesOwn, ServerState, Session, SessionState, StreamNames, Tells, Track, adds, cycle_alone, deeds_met, entry_told, held_slot, is_over, met_marked, mix_marked, poll_marked, same_frames, same_last, client_side, slot_for, small_told, still_on, tame_marks, told_at, with_mix, with_poll}
 use Rattle.af_runs.specs.Runs as run_of
-use Rattle.af_render_law.specs.Laws.{IsBetween, ToldBy}
-use Rattle.af_render_law.proofs.IdlePoll.{between_met, caught_met}
+use Rattle.af_render_law.proofs.OwnKept.{ToldBy, mixed_many, mixed_same, saw_met, saw_now, saw_polled, saw_sides}
+use Rattle.af_render_law.proofs.IdlePoll.{IsBetween, between_met, caught_met}
 use Rattle.af_told_law.proofs.PollFinds.{poll_met}
 use Rattle.af_told_law.proofs.PipeFront.{took_counted}
-use Rattle.af_render_law.proofs.OwnKept.{mixed_many, mixed_same, saw_met, saw_now, saw_polled, saw_sides}
 
 -- a mix changes nothing of what stands between two turns
 pub between_mixed : (x : SessionState) (g : MixerState) → g.observer.past ≡ x.fast.observer.past → IsBetween x → IsBetween (record x { fast = g })

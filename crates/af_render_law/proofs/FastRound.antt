@@ -5,11 +5,11 @@ use Rattle.af_runs.specs.Rounds.{IsFastTurn}
 use Rattle.af_script.specs.declared.op.TurnSpec.TheVariants as makes
 use Rattle.af_session.specs.FastTurns as parties
 use Rattle.af_session.specs.Rounds as rounds
-use Rattle.af_render_law.specs.Laws.{IsBetween, StepIsTold, ToldBy, round_of}
+use Rattle.af_render_law.proofs.OwnKept.{ToldBy, left_histories, left_met}
+use Rattle.af_render_law.proofs.Chain.{StepIsTold, round_of}
+use Rattle.af_render_law.proofs.IdlePoll.{IsBetween, between_after}
 use Rattle.af_render_law.proofs.ClientRound.{none_else}
 use Rattle.af_render_law.proofs.FastTurnTold.{TurnTold, turn_told}
-use Rattle.af_render_law.proofs.IdlePoll.{between_after}
-use Rattle.af_render_law.proofs.OwnKept.{left_histories, left_met}
 
 module _ (s : Session) (marks : Marks) (run : Run) (count : ℕ) (x : SessionState) (r : RoundNoted) (bytes : List ℕ) (y : SessionState) (entries : List EntrySeen) (mixes : MixesAreTold s) (h : ToldBy s run x) (tame : IsMarkedRun marks run)
     (between : IsBetween x) (runs : x.fast.exited ≡ false) (some : 1 ≤ count) (room : length run.entries + count ≤ s.script.cycles) (w : IsRound (given_of s) (makes.Fast count) x r bytes y)

@@ -4,7 +4,7 @@ use Rattle.af_render_law.proofs.Common.{Cycle, IsFastTurn, IsQuiet, LeadLent, Ma
 use Rattle.af_script.specs.declared.op.TurnSpec.TheVariants as makes
 use Rattle.af_rendering.proofs.RoundTold.{log_turned}
 use Rattle.af_render_law.proofs.Chain.{FastTurnIsAStep}
-use Rattle.af_render_law.specs.Laws.{IsBetween}
+use Rattle.af_render_law.proofs.IdlePoll.{IsBetween}
 use Rattle.af_render_law.proofs.FastRound.{fast_between, fast_step}
 use Rattle.af_told_law.proofs.MixTold.{mix_told}
 

@@ -1,10 +1,10 @@
 -- The cycles of a fast turn, one after the other, are told, if the meetings after the turn show what the servers saw in the last one.
 use Rattle.std.proofs.Common.{◌≡◌, ℕ, zero, suc, ◌+◌, ◌≤◌, Bool, true, false, true≢false, fold, take, drop, List, [], ◌∷◌, ◌++◌, length, append-nil, append_assoc, refl, sym, ap, ◌∙◌, subst, arith}
 use Rattle.af_render_law.proofs.Common.{AreSmall, AreTogether, AreTurn, Cycle, CycleEntry, EntrySeen, Frame, IsCycle, IsFastTurn, IsMarkedRun, LegalAlone, Links, Marks, Met, MixesAreTold, Run, SeesOwn, Session, SessionState, WritesCycle, adds, cycle_alone, drop-append_seam, entries_seen, entry_told, frames_grow, frames_more, is_mixed, is_over, meetings_show, mixed_entry, one_more, still_room, still_runs, taken, taken_by, taken_long}
-use Rattle.af_render_law.specs.Laws.{IsBetween, ToldBy}
+use Rattle.af_render_law.proofs.OwnKept.{ToldBy}
+use Rattle.af_render_law.proofs.IdlePoll.{IsBetween, idle_meetings_show}
 use Rattle.af_render_law.proofs.FastCycle.{cycle_legal, cycle_tame, cycle_told, next_between, next_caught, next_small}
 use Rattle.af_told_law.proofs.FastGrows.{goes_on}
-use Rattle.af_render_law.proofs.IdlePoll.{idle_meetings_show}
 
 -- what a log has past some frames that it begins with
 past_first : (frames first rest : List Frame) → frames ≡ first ++ rest → drop (length first) frames ≡ rest

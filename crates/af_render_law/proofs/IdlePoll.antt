@@ -6,7 +6,13 @@ use Rattle.af_link.specs.PipeEnds.{SeesTaken}
 use Rattle.af_model.specs.declared.states.MutatorEvent.TheVariants as mutator
 use Rattle.af_model.specs.declared.states.ObserverEvent.TheVariants as observer
 use Rattle.af_stateq.specs.Answers.{sees_same}
-use Rattle.af_render_law.specs.Laws.{IsBetween}
+
+-- the queue's ends are in step, their lists have a history, and the slots of the observer's state, and of the last one pushed, lead to tracks whose proxies are away
+pub record IsBetween (x : SessionState) : Type 0 where
+  pub step : InStep x.normal.mutator.past x.fast.observer.past
+  pub history : HasStateHistory x.normal.mutator.past.first x.normal.mutator.past.events x.fast.observer.past.events
+  pub state : LeadAway x.fast.observer.past.state x.normal.tracks
+  pub last : LeadAway x.normal.mutator.past.last x.normal.tracks
 
 abbrev Watching : Type 0
 Watching = Observes ServerState StreamNames

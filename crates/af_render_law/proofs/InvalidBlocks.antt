@@ -1,5 +1,5 @@
 -- What each step of a run leaves of a stream block on which no INVALID is set while its server isn't shut, and its track hasn't ended and isn't there yet or has a slot.
-use Rattle.std.proofs.Common.{◌≡◌, ℕ, ◌-◌, ◌==◌, Bool, true, false, true≢false, if◌then◌else◌, is_some, map, List, [], ◌∷◌, ◌++◌, drop, length, Option, Some, None, refl, sym, ap, ◌∙◌, subst, append-nil, append_assoc}
+use Rattle.std.proofs.Common.{◌≡◌, ℕ, ◌-◌, ◌==◌, Bool, true, false, true≢false, if◌then◌else◌, is_some, map, List, [], ◌∷◌, ◌++◌, drop, length, Option, Some, None, refl, sym, ap, ◌∙◌, subst, append-nil}
 use Rattle.af_render_law.proofs.Common.{All-append, All-cons, All-nil, All-push, BlockTold, ClientEvent, EntrySeen, FastState, HandEvent, Listed, Moment, ServerEvent, ServerKept, Session, Shape, Side, SlotEntry, TrackKept, TrackTold, Turn, by_hand, by_server, client-hand, client-server, client_list, cycle_events, cycle_frames, drops_of, entry_slot, fold-append, front_of, hand-server, hand_of, is_shut, kept, listed, look_events, mixed_track, played, server-server, server_begins, server_keeps, server_kept, server_list, server_of, stream_met, tally, told_more, track_in, with_side}
 use Rattle.af_base.specs.declared.event.HandEvent.TheVariants as hand
 use Rattle.af_base.specs.declared.event.ServerEvent.TheVariants as server
@@ -12,6 +12,7 @@ use Rattle.af_runs.specs.Runs.{slot_playing}
 use Rattle.af_render_law.proofs.MixedOpen.{Looked, played_open}
 use Rattle.af_render_law.proofs.NoInvalid.{SetsNoInvalid, SetNoInvalid, HandSetsNoInvalid, HandSetNoInvalid}
 use Rattle.af_render_law.proofs.Unmixed.{Unmixed}
+use Rattle.af_enough_law.proofs.MoreTold.{hand-hand, server-hand}
 
 -- no INVALID is set on a block of this shape with these lists of its server and its hand
 pub record SetsNone (s : TrackKept) (k : Shape) (events : List ServerEvent) (hands : List HandEvent) : Type 0 where
@@ -25,14 +26,6 @@ pub unset_new : (s : TrackKept) (k : Shape) → SetsNone s k [] []
 unset_new s k = record { server = λ u fine. All-nil SetsNoInvalid; hand = All-nil HandSetsNoInvalid }
 
 -- ## Lists
-
-server-hand : (told : List Moment) (es : List ServerEvent) → hand_of (told_more told (map by_server es)) ≡ hand_of told
-server-hand told [] = refl
-server-hand told (e ∷ es) = server-hand (by_server e ∷ told) es
-
-hand-hand : (told : List Moment) (es : List HandEvent) → hand_of (told_more told (map by_hand es)) ≡ hand_of told ++ es
-hand-hand told [] = sym (append-nil (hand_of told))
-hand-hand told (e ∷ es) = hand-hand (by_hand e ∷ told) es ∙ append_assoc (hand_of told) (e ∷ []) es
 
 either_sets : (b : Bool) (xs ys : List ServerEvent) → SetNoInvalid xs → SetNoInvalid ys → SetNoInvalid (if b then xs else ys)
 either_sets true xs ys g h = g

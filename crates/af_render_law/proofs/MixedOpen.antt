@@ -5,6 +5,7 @@ use Rattle.af_model.specs.ClientCalls.{client_kept}
 use Rattle.af_runs.specs.Runs.{shows_slot, slot_playing}
 use Rattle.af_model.proofs.Logic.{both_right}
 use Rattle.af_runs.proofs.StatesFor.{state_known}
+use Rattle.af_model.proofs.Basics.{not_true}
 
 -- ## The look answers
 
@@ -89,8 +90,4 @@ module _ (s : Session) (x : FastState) (e : EntrySeen) (n i : ℕ) (b : BlockTol
     where
       spared : (o : Option ℕ) → o ≡ Some i → elim o as (λ o. Bool) [ None ↦ true | Some k ↦ not (is_shut (entry_slot e.entry k).seen) ] ≡ true → is_shut (entry_slot e.entry i).seen ≡ false
       spared None is h = no (ap is_some is)
-      spared (Some k) is h = ap (λ j. is_shut (entry_slot e.entry j).seen) (sym (ap number_of is)) ∙ unmarked (is_shut (entry_slot e.entry k).seen) h
-        where
-          unmarked : (b : Bool) → not b ≡ true → b ≡ false
-          unmarked true h = no h
-          unmarked false h = refl
+      spared (Some k) is h = ap (λ j. is_shut (entry_slot e.entry j).seen) (sym (ap number_of is)) ∙ not_true (is_shut (entry_slot e.entry k).seen) h

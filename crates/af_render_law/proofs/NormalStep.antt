@@ -4,8 +4,8 @@ use Rattle.af_render_law.proofs.Common.{AreSmall, AreTogether, Deeds, EntrySeen,
 use Rattle.af_enough_law.proofs.Basics.{load_told as same_track}
 use Rattle.af_runs.specs.Runs as run_of
 use Rattle.af_script.specs.declared.op.TurnSpec.TheVariants as makes
-use Rattle.af_render_law.proofs.Chain.{Holds, NormalTurnIsAStep}
-use Rattle.af_render_law.specs.Laws.{StepIsTold, ToldBy, round_of}
+use Rattle.af_render_law.proofs.Chain.{Holds, NormalTurnIsAStep, StepIsTold, round_of}
+use Rattle.af_render_law.proofs.OwnKept.{ToldBy, left_histories, left_met, saw_loaded, saw_now, saw_sides, turned_own}
 use Rattle.af_render_law.proofs.BetweenRounds.{leads_turned}
 use Rattle.af_render_law.proofs.ClientRound.{none_else}
 use Rattle.af_told_law.proofs.NormalRound.{known_now, legal_now, sides_same, tells_turned, then_at, then_long}
@@ -14,7 +14,6 @@ use Rattle.af_told_law.proofs.TurnCounts.{turns_made}
 use Rattle.af_base.specs.declared.report.Report.{Report}
 use Rattle.af_told_law.proofs.LoadTold.{known_loaded, load_told}
 use Rattle.af_render_law.proofs.TurnMet.{load_is, turn_shown}
-use Rattle.af_render_law.proofs.OwnKept.{left_histories, left_met, saw_loaded, saw_now, saw_sides, turned_own}
 
 -- one turn more is counted
 made_turns : (x y : NormalState) → TurnMade (answer_of (turn_of y.entry)) x y → y.turns ≡ x.turns + 1

@@ -9,9 +9,14 @@ use Rattle.af_judge.proofs.EntryTracks.{mixed_sides}
 use Rattle.af_session.specs.Rounds as parties
 use Rattle.af_turn_law.proofs.Basics.{tame_met}
 use Rattle.af_turn_law.proofs.MixedHome.{mixed_home}
-use Rattle.af_render_law.specs.Laws.{ToldBy}
 use Rattle.af_told_law.proofs.AllMeet.{met_histories, tells_met}
 use Rattle.af_told_law.proofs.EndsTold.{ends_told}
+
+-- The run tells the session, by lists of its servers in which each front seen at a block that wasn't poked so far is the server's own
+pub record ToldBy (s : Session) (run : Run) (y : SessionState) : Type 0 where
+  pub deeds : Deeds
+  pub told : Tells s run deeds y
+  pub saw : SawOwnBy (tame_marks run) run deeds
 
 -- ## Lists
 

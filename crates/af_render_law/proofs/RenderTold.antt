@@ -3,14 +3,14 @@ use Rattle.std.proofs.Common.{List, [], ap, arith, inl, length, refl, slice_get,
 use Rattle.af_render_law.proofs.Common.{AreListTurns, AreRoundsMarked, AreTurns, ClientPart, EndsState, EntrySeen, FindShutUnseen, Frame, HandsBack, IsScript, IsTurnRun, JournalData, Logged, Marks, MixerState, NormalState, PartyState, Renders, RoundNoted, RoundSeen, ScriptData, Session, SessionState, TurnSpec, all_asked, entries_grown, entries_seen, fast_cycles, forced_run, known_new, marks_free, marks_of, new_marked, new_run, new_small, none-some, rounds_seen, run_alone, same_Some, session_of, slice_get_within}
 use Rattle.af_script.specs.declared.op.TurnSpec.TheVariants as makes
 use Rattle.af_judge.proofs.StatesRuns.{scales_of}
-use Rattle.af_render_law.specs.Aware.{KnowsAway}
+use Rattle.af_render_law.proofs.AwayKnown.{KnowsAway}
 use Rattle.af_render_law.proofs.Chain.{AreCounted, FastTurnIsAStep, Holds, NormalTurnIsAStep}
-use Rattle.af_render_law.specs.Laws.{AreSteps, ToldBy}
+use Rattle.af_render_law.proofs.OwnKept.{ToldBy}
+use Rattle.af_render_law.proofs.StepTurns.{AreSteps, steps_turns}
 use Rattle.af_told_law.proofs.FirstSteps.{stands_first}
 use Rattle.af_render_law.proofs.InvalidKept.{invalid_new}
 use Rattle.af_told_law.proofs.NewTold.{new_told, no_deeds}
 use Rattle.af_told_law.proofs.PipeCells.{cells_new}
-use Rattle.af_render_law.proofs.StepTurns.{steps_turns}
 use Rattle.af_render_law.proofs.TameRounds.{tame_new}
 use Rattle.af_render_law.proofs.TurnChain.{chain}
 

@@ -2,7 +2,7 @@
 use Rattle.std.proofs.Common.{◌≡◌, List, sym, subst}
 use Rattle.af_render_law.proofs.Common.{EndsState, Frame, HandsBack, IsScript, IsTurnRun, JournalData, Marks, ScriptData, Session, parts_told, session_of, shown_by, shown_from, summary_by, summary_told}
 use Rattle.af_render_law.proofs.Chain.{FastTurnIsAStep, NormalTurnIsAStep}
-use Rattle.af_render_law.specs.Laws.{ToldBy}
+use Rattle.af_render_law.proofs.OwnKept.{ToldBy}
 use Rattle.af_render_law.specs.RenderLaws.{RendersAreToldAlone, run_told}
 use Rattle.af_render_law.proofs.FastStep.{fast_turns_step}
 use Rattle.af_render_law.proofs.NormalStep.{normal_turns_step}

@@ -1,7 +1,6 @@
 -- A track that a turn finds shut has ended after its part of the turn.
 use Rattle.std.proofs.Common.{◌≡◌, ℕ, zero, suc, ◌==◌, ◌&&◌, ◌||◌, not, Bool, true, false, true≢false, MatchBool, if◌then◌else◌, is_some, List, [], ◌∷◌, length, Option, refl, sym, ap, ◌∙◌, arith, eqb-true}
 use Rattle.af_render_law.proofs.Common.{CommandLook, Heard, IsServed, TrackKept, TrackSeen, after_commands, after_look, after_looks, after_part, are_due, by_report, ended, goes_on, grew_report, is_found_shut, is_shut, list_any, most_looks, no, report_ends, shows_command}
-use Rattle.af_base.specs.declared.seen.Seen.TheVariants as seen
 use Rattle.af_runs.proofs.Basics.{shut_shows}
 
 ends_by : (command shut : Bool) (obeyed s : TrackKept) → command ≡ false → shut ≡ true → (if command then obeyed else if shut then ended s else s).life.ended ≡ true

@@ -5,7 +5,7 @@ use Rattle.af_cblk.specs.Rule.{StartsWith}
 use Rattle.af_life.specs.Sound.{IsSound}
 use Rattle.af_model.specs.History.{HasHistory}
 use Rattle.af_normal.specs.State.{setup_of as mixer_setup}
-use Rattle.af_render_law.specs.Aware.{KnowsAway}
+use Rattle.af_render_law.proofs.AwayKnown.{KnowsAway}
 use Rattle.af_told_law.specs.Comers.{ComersTell}
 use Rattle.af_render_law.proofs.InvalidKept.{InvalidKept, away_unset}
 use Rattle.af_told_law.proofs.LegalAlike.{invalid_same}
@@ -13,7 +13,7 @@ use Rattle.af_render_law.proofs.NoInvalid.{HandSetNoInvalid, SetNoInvalid, set_f
 use Rattle.af_told_law.proofs.NormalFound.{client_at, stream_real, turn_alike}
 use Rattle.af_render_law.proofs.RunCalm.{AllOpen}
 use Rattle.af_told_law.proofs.TurnAlike.{learn_alike, served_holder, tracks_same}
-use Rattle.af_told_law.specs.Outsides.{FindsBlocks, HeardAlike}
+use Rattle.af_told_law.specs.NormalLaws.{FindsBlocks, HeardAlike}
 
 none_there : {X : Type 0} (o : Option X) → is_some o ≡ false → o ≡ None
 none_there None h = refl

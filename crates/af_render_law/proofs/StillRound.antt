@@ -5,9 +5,9 @@ use Rattle.af_runs.specs.Rounds.{IsFastTurn}
 use Rattle.af_runs.specs.Runs as run_of
 use Rattle.af_script.specs.declared.op.TurnSpec.TheVariants as makes
 use Rattle.af_session.specs.FastTurns as parties
-use Rattle.af_render_law.specs.Laws.{StepIsTold, ToldBy, round_of}
+use Rattle.af_render_law.proofs.OwnKept.{ToldBy, left_histories, left_met}
+use Rattle.af_render_law.proofs.Chain.{StepIsTold, round_of}
 use Rattle.af_render_law.proofs.ClientRound.{none_else}
-use Rattle.af_render_law.proofs.OwnKept.{left_histories, left_met}
 
 module _ (links : Links) (s : Session) (marks : Marks) (run : Run) (x : SessionState) (r : RoundNoted) (bytes : List ℕ) (y : SessionState) (entries : List EntrySeen) (h : ToldBy s run x) (together : AreTogether links x) where
   abbrev round : RoundSeen

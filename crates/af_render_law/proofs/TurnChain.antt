@@ -4,10 +4,10 @@ use Rattle.af_render_law.proofs.Common.{All, All-head, All-tail, AreRoundsMarked
 use Rattle.af_runs.specs.Runs as run_of
 use Rattle.af_script.specs.declared.op.TurnSpec.TheVariants as makes
 use Rattle.af_session.specs.Rounds.{IsTurnRun, with_ends as with_ends_of}
-use Rattle.af_render_law.specs.Aware.{KnowsAway}
-use Rattle.af_render_law.proofs.Chain.{AreCounted, FastTurnIsAStep, Holds, NormalTurnIsAStep}
-use Rattle.af_render_law.specs.Laws.{AreSteps, StepIsTold, ToldBy, round_of}
-use Rattle.af_render_law.proofs.AwayKnown.{away_ends, knows_away}
+use Rattle.af_render_law.proofs.AwayKnown.{KnowsAway, away_ends, knows_away}
+use Rattle.af_render_law.proofs.Chain.{AreCounted, FastTurnIsAStep, Holds, NormalTurnIsAStep, StepIsTold, round_of}
+use Rattle.af_render_law.proofs.OwnKept.{ToldBy}
+use Rattle.af_render_law.proofs.StepTurns.{AreSteps}
 use Rattle.af_render_law.proofs.InvalidKept.{invalid_round}
 use Rattle.af_told_law.proofs.KnownSteps.{report_ends}
 use Rattle.af_render_law.proofs.BetweenRounds.{client_stands, normal_stands, still_stands}

@@ -13,7 +13,7 @@ use Rattle.af_model.specs.NewestValue as newest
 use Rattle.af_model.specs.PipeHistory.{HasPipeHistory, releases_of}
 use Rattle.af_model.specs.Reports.{no_report}
 use Rattle.af_normal.specs.State.{setup_of as mixer_setup}
-use Rattle.af_told_law.specs.Places.{StreamsGo, StreamsStay}
+use Rattle.af_told_law.proofs.Places.{StreamsGo, StreamsStay}
 use Rattle.af_told_law.proofs.NormalGoes.{turn_leaves}
 use Rattle.af_told_law.proofs.ReportSeen.{cycle_is, heard_found, loaded_is, number_is}
 use Rattle.af_told_law.proofs.TurnPipe.{front_told}

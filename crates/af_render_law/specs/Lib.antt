@@ -1,4 +1,2 @@
-pub mod Laws
 pub mod RenderLaws
-pub mod Aware
 pub mod TurnsSoFar

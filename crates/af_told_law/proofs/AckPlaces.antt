@@ -1,6 +1,6 @@
 -- Where the items in hand lie after a look at the acknowledgement, and what it leaves of the pushes.
 use Rattle.std.proofs.Common.{◌≡◌, ◌≢◌, ℕ, zero, suc, ◌+◌, ◌<◌, ◌&&◌, ◌⊎◌, inl, inr, not, Bool, true, false, true≢false, is_some, if◌then◌else◌, refl, sym, ap, subst, ◌∙◌, List, [], ◌∷◌, ◌++◌, length, Option, Some, None, ⊎_elim, eq-eqb, get_or-set_other, arith}
-use Rattle.af_told_law.proofs.Common.{AreOf, FastTrack, InSlot, IsTied, Links, Mutates, NormalState, Pushes as Past, SeesAck, ServerState, StreamNames, WasAcked, Welcomes, WelcomesTo, acked_list, append_cancel_left, at, carries, cases_eq, is_out, kept_of, none-some, not_true, number_seen, saw, set-get_or, slice_set, slot_number, slots, takes_back, track_at, with_mutator, word}
+use Rattle.af_told_law.proofs.Common.{AreOf, FastTrack, InSlot, IsTied, Links, MutatorEvent, Mutates, NormalState, Pushes as Past, SeesAck, ServerState, StreamNames, WasAcked, Welcomes, WelcomesTo, acked_list, append_cancel_left, at, carries, cases_eq, is_out, kept_of, none-some, not_true, number_seen, saw, set-get_or, slice_set, slot_number, slots, takes_back, track_at, with_mutator, word}
 use Rattle.af_model.specs.declared.states.MutatorEvent.TheVariants as mutator
 use Rattle.af_normal.proofs.Welcomed.{by_return}
 use Rattle.af_told_law.proofs.Basics.{item_within}
@@ -120,9 +120,9 @@ all_leave (suc n) x y (z, before, w) = join x.mutator z.mutator y.mutator (all_l
 
 -- ## The look
 
--- two looks that are one brought the same items
-pub one_look : (n : ℕ) (back again : List (Option ServerState)) → mutator.SawAck n back ∷ [] ≡ mutator.SawAck n again ∷ [] → back ≡ again
-one_look n back again e = cc
+-- two looks that begin the same events brought the same items
+pub first_look : (n : ℕ) (a b : List (Option ServerState)) (xs ys : List (MutatorEvent ServerState)) → mutator.SawAck n a ∷ xs ≡ mutator.SawAck n b ∷ ys → (a ≡ b) × (xs ≡ ys)
+first_look n a b xs ys e = (cc, cc)
 
 -- What a look leaves: the pushes as they were, seen acknowledged if it says so, the items in hand, which were there or came by it, and a slot that isn't out, which no state carries that an observer may have. What was in hand, or came, the last state doesn't carry; what waited had none on its way back
 pub record Acked (ack : Bool) (x y : Mutates ServerState StreamNames) (back : List (Option ServerState)) : Type 0 where
@@ -237,5 +237,5 @@ module _ (links : Links) (x y : NormalState) (tied : IsTied links x) where
 
   -- what the look leaves, by what it saw
   pub look_leaves : (ack : Bool) (sees : SeesAck ack x y) → Acked ack x.mutator y.mutator (acked_list links ack x y tied sees).0
-  look_leaves ack sees = subst (Acked ack x.mutator y.mutator) (one_look (number_seen (kept_of x) ack) (items_of ack sees) (acked_list links ack x y tied sees).0
-      (append_cancel_left x.mutator.past.events _ _ (sym (events_are ack sees) ∙ (acked_list links ack x y tied sees).1))) (look_by ack sees)
+  look_leaves ack sees = subst (Acked ack x.mutator y.mutator) (first_look (number_seen (kept_of x) ack) (items_of ack sees) (acked_list links ack x y tied sees).0 [] []
+      (append_cancel_left x.mutator.past.events _ _ (sym (events_are ack sees) ∙ (acked_list links ack x y tied sees).1))).0 (look_by ack sees)

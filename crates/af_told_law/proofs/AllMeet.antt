@@ -1,12 +1,17 @@
 -- After the meetings of all parties the run after its meetings tells the session, and its lists have their histories.
 use Rattle.std.proofs.Common.{List, Some, ap, arith, false, is_some, length, refl, slice_get, subst, sym, true, ℕ, ◌<◌, ◌∙◌, ◌≡◌}
-use Rattle.af_told_law.proofs.Common.{AreTogether, HaveHistories, KeepsHistory, Links, Met, PartyState, Run, Session, SessionState, TrackHistories, TrackKept, TrackTold, met, met_many, slice_get_within, some_at, takes_part, told_at, track_count, track_met}
+use Rattle.af_told_law.proofs.Common.{AreTogether, HaveHistories, KeepsHistory, Links, Met, PartyState, Run, Session, SessionState, TrackHistories, TrackKept, TrackTold, is_tame, met, met_many, server_list, slice_get_within, some_at, takes_part, told_at, track_count, track_met}
 use Rattle.af_judge.proofs.BlocksMeet.{met_at}
 use Rattle.af_told_law.specs.Tells.{Tells, TellsNormal, TellsTrack}
 use Rattle.af_told_law.proofs.SharedMeets.{fast_met, kept_met, shared_histories, shared_met}
-use Rattle.af_told_law.proofs.TrackMeets.{commands_history, stream_now, track_now, tracks_are}
-use Rattle.af_told_law.specs.Deeds.{Deeds, MetTold, deeds_met}
+use Rattle.af_told_law.proofs.TrackMeets.{commands_history, deeds_met, stream_now, track_now, tracks_are}
+use Rattle.af_told_law.specs.Deeds.{Deeds}
 use Rattle.af_turn_law.proofs.Basics.{tame_met}
+
+-- what the servers that take part in the next meetings did is told, on each block that wasn't poked
+pub record MetTold (s : Session) (run : Run) (d : Deeds) : Type 0 where
+  pub streams : (i : ℕ) → i < track_count s → takes_part s run i ≡ true → is_tame (told_at run i).stream ≡ true → d.streams i ≡ server_list (told_at run i).stream
+  pub commands : (i : ℕ) → i < track_count s → is_tame (told_at run i).commands ≡ true → d.commands i ≡ server_list (told_at run i).commands
 
 module _ (links : Links) (s : Session) (run : Run) {d : Deeds} (a b : SessionState) (together : AreTogether links a) (still : AreTogether links b) (h : Tells s run d a) (m : Met a b) where
   as_many : length b.clients ≡ length a.clients

@@ -1,11 +1,15 @@
 -- Basic lemmas that several files here, and of the crates above, cite.
-use Rattle.std.proofs.Common.{List, None, Option, Some, [], ap, arith, false, fold, length, refl, suc, sym, true, true≢false, zero, ℕ, ◌++◌, ◌+◌, ◌<◌, ◌∷◌, ◌≡◌, ◌≢◌}
-use Rattle.af_told_law.proofs.Common.{AllSeeOwn, BlockTold, Busy, Clean, Cycle, CycleEntry, EntrySeen, FastState, Item, MutatorEvent, ObserverEvent, Push, Pushed, QueueTold, ServerEvent, ServerKept, ServerState, Session, Shape, TrackTold, append_cancel_left, at, client_list, cycle_frames, in_queue, is_mixed, is_pushed, mixed_track, none-some, observer_does, one, ones, played, server_begins, server_keeps, slice_index_or, two}
+use Rattle.std.proofs.Common.{List, None, Option, Some, [], ap, arith, false, fold, length, refl, suc, sym, true, true≢false, zero, ℕ, ◌++◌, ◌<◌, ◌∷◌, ◌≡◌}
+use Rattle.af_told_law.proofs.Common.{AllSeeOwn, BlockTold, Busy, Clean, Cycle, CycleEntry, EntrySeen, FastState, Push, Pushed, ServerEvent, ServerKept, ServerState, Session, Shape, TrackTold, append_cancel_left, at, client_list, cycle_frames, in_queue, is_mixed, is_pushed, mixed_track, none-some, played, server_begins, server_keeps, slice_index_or}
 use Rattle.af_base.specs.declared.event.ServerEvent.TheVariants as server
 use Rattle.af_base.specs.declared.log.Cycle.TheVariants as cycle
 use Rattle.af_model.specs.Cycles.{is_exit}
 use Rattle.af_runs.specs.Runs.{slot_playing}
-use Rattle.af_told_law.specs.Deeds.{SawOwnOf, met_deed}
+use Rattle.af_told_law.specs.Deeds.{SawOwnOf}
+
+-- the list of a server that met its client
+abbrev pub met_deed : BlockTold → List ServerEvent → List ServerEvent
+met_deed b deed = deed ++ server.Learn (length (client_list b)) ∷ []
 
 pub commands_stay : (s : Session) (x : FastState) (e : EntrySeen) (n : ℕ) (t : TrackTold) → (mixed_track s x e n t).commands ≡ t.commands
 commands_stay s x e n t = by_slot (slot_playing x e.entry n)
@@ -22,12 +26,6 @@ item_within (o ∷ items) (suc k) t e = let l : k < length items = item_within i
 pub no_exit : (c : Cycle) → is_mixed c ≡ true → is_exit c ≡ false
 no_exit cycle.Exit e = absurd (true≢false (sym e))
 no_exit _ e = refl
-
-pub ones_observed : (told : QueueTold) (es : List (ObserverEvent Item)) → ones (observer_does es told) ≡ ones told
-ones_observed [] [] = refl
-ones_observed [] (e ∷ es) = ones_observed [] es
-ones_observed (one a ∷ told) es = ap (λ (l : List (MutatorEvent Item)). a ∷ l) (ones_observed told es)
-ones_observed (two b ∷ told) es = ones_observed told es
 
 -- if each front of two parts of a list is the server's own, so is each of the list
 pub own_join : (k : Shape) (kept : ServerKept) (xs ys : List ServerEvent) → AllSeeOwn k kept xs → AllSeeOwn k (fold (server_keeps k) kept xs) ys → AllSeeOwn k kept (xs ++ ys)

@@ -10,7 +10,8 @@ use Rattle.af_runs.specs.Blocks.{hand_list}
 use Rattle.af_told_law.specs.Tells.{TellsServer}
 use Rattle.af_told_law.proofs.KeptAlike.{met_alike}
 use Rattle.af_cblk.specs.declared.view.HandPart.{HandPart}
-use Rattle.af_told_law.specs.Deeds.{DeedTold, done_on, met_deed}
+use Rattle.af_told_law.specs.Deeds.{DeedTold, done_on}
+use Rattle.af_told_law.proofs.Basics.{met_deed}
 use Rattle.af_told_law.proofs.MixLooks.{own_split}
 
 -- the lists of a client, a server and a hand that are told have the history of their block, if what the server did is told

@@ -16,6 +16,27 @@ did_same b c deed shape list h = record {
   own = (λ saw. h.own (subst (λ (k : Shape). SawOwnOf k deed) shape saw) ∙ sym list);
 }
 
+-- the run tells the session with other tracks and clients, as many, if it tells each of these
+pub others_told : (s : Session) (run : Run) {d : Deeds} (x : SessionState) → Tells s run d x → (tracks : List TrackTold) (clients : List PartyState) → length tracks ≡ length run.tracks → length clients ≡ length x.clients
+    → ((i : ℕ) (p : PartyState) → slice_get clients i ≡ Some p → TellsTrack s x.normal x.fast d i (told_at (record run { tracks = tracks }) i) p) → Tells s (record run { tracks = tracks }) d (record x { clients = clients })
+others_told s run x h tracks clients long many each = record {
+  count = (long ∙ h.count.0, many ∙ h.count.1);
+  tracks = each;
+  shared = record {
+    first = h.shared.first;
+    mutator = h.shared.mutator;
+    observer = h.shared.observer;
+    reader = h.shared.reader;
+    writer = h.shared.writer;
+    puts = record { told = h.shared.puts.told; words = h.shared.puts.words };
+    takes = h.shared.takes;
+    taken = h.shared.taken;
+    size = h.shared.size;
+  };
+  normal = record { setup = h.normal.setup; kept = h.normal.kept; hands = h.normal.hands; states = h.normal.states; number = h.normal.number; last = h.normal.last };
+  fast = record { frames = h.fast.frames; cycles = h.fast.cycles; current = h.fast.current; state = h.fast.state; entries = h.fast.entries; logged = h.fast.logged; exited = h.fast.exited; reports = h.fast.reports; fresh = h.fast.fresh };
+}
+
 -- ## The calls
 
 servers_same : (b : BlockTold) (side : Side) → server_list (with_side side b) ≡ server_list b
@@ -64,23 +85,8 @@ module _ (s : Session) (run : Run) (i : ℕ) (round : RoundSeen) {d : Deeds} (x 
   left = record x { clients = slice_set x.clients i c.after }
 
   left_told : Tells s after d left
-  left_told = record {
-    count = (each_long change 0 run.tracks ∙ h.count.0, length-set x.clients i c.after ∙ h.count.1);
-    tracks = λ j q is. there j q (cases_eq j i) is (let w = slice_get_within (slice_set x.clients i c.after) j q is in let n = length-set x.clients i c.after in let a = h.count.0 in let b = h.count.1 in omega (arith, w, n, a, b));
-    shared = record {
-      first = h.shared.first;
-      mutator = h.shared.mutator;
-      observer = h.shared.observer;
-      reader = h.shared.reader;
-      writer = h.shared.writer;
-      puts = record { told = h.shared.puts.told; words = h.shared.puts.words };
-      takes = h.shared.takes;
-      taken = h.shared.taken;
-      size = h.shared.size;
-    };
-    normal = record { setup = h.normal.setup; kept = h.normal.kept; hands = h.normal.hands; states = h.normal.states; number = h.normal.number; last = h.normal.last };
-    fast = record { frames = h.fast.frames; cycles = h.fast.cycles; current = h.fast.current; state = h.fast.state; entries = h.fast.entries; logged = h.fast.logged; exited = h.fast.exited; reports = h.fast.reports; fresh = h.fast.fresh };
-  }
+  left_told = others_told s run x h after.tracks left.clients (each_long change 0 run.tracks) (length-set x.clients i c.after)
+      (λ j q is. there j q (cases_eq j i) is (let w = slice_get_within (slice_set x.clients i c.after) j q is in let n = length-set x.clients i c.after in let a = h.count.0 in let b = h.count.1 in omega (arith, w, n, a, b)))
 
   pub client_told : Tells s after d y
   client_told = subst (Tells s after d) (sym c.leaves) left_told

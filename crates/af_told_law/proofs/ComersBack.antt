@@ -4,11 +4,11 @@ use Rattle.af_told_law.proofs.Common.{AreTogether, FastState, HasStateHistory, H
 use Rattle.af_model.specs.declared.states.MutatorEvent.TheVariants as mutator
 use Rattle.af_model.specs.declared.states.ObserverEvent.TheVariants as observer
 use Rattle.af_told_law.specs.Between.{StandsBefore}
-use Rattle.af_told_law.specs.Comers.{ComersTell, ComesBy}
-use Rattle.af_told_law.specs.Places.{StreamsGo}
+use Rattle.af_told_law.specs.Comers.{ComersTell}
+use Rattle.af_told_law.proofs.ComersTold.{ComesBy, comers_told}
+use Rattle.af_told_law.proofs.Places.{StreamsGo}
 use Rattle.af_told_law.specs.Tells.{Tells, TellsServer, held_slot, is_coming, items_given}
 use Rattle.af_told_law.proofs.AckPlaces.{none_by}
-use Rattle.af_told_law.proofs.ComersTold.{comers_told}
 use Rattle.af_told_law.proofs.LooksTurned.{all_polled, back_coming, back_given, back_same, coming_parts}
 use Rattle.af_told_law.proofs.SlotHeld.{found_carries, found_track}
 use Rattle.af_told_law.specs.Deeds.{Deeds, done_on}

@@ -1,10 +1,17 @@
 -- The stream proxies that come home in a turn of the normal mixer tell their blocks, if it is known how they come.
 use Rattle.std.proofs.Common.{◌≡◌, ℕ, ◌<◌, ◌&&◌, Bool, true, false, true≢false, if◌then◌else◌, is_some, List, length, Option, Some, None, refl, sym, ◌∙◌, arith}
-use Rattle.af_told_law.proofs.Common.{Home, Lent, Returning, Run, ServerState, Session, SessionState, Turn, after_ack, at, is_home, is_returning, kept_of, slot_number, some_at, told_at, track_at}
+use Rattle.af_told_law.proofs.Common.{Home, Lent, Returning, Run, ServerState, Session, SessionState, Turn, after_ack, at, in_hand, is_home, is_returning, kept_of, slot_number, some_at, told_at, track_at}
 use Rattle.af_life.specs.declared.kept.Holder.{Holder}
-use Rattle.af_told_law.specs.Comers.{ComersTell, ComesBy}
-use Rattle.af_told_law.specs.Tells.{Tells, TellsAway, TellsServer}
+use Rattle.af_told_law.specs.Comers.{ComersTell}
+use Rattle.af_told_law.specs.Tells.{Tells, TellsAway, TellsServer, held_slot, is_coming, items_given, none_comes}
 use Rattle.af_told_law.specs.Deeds.{Deeds, done_on}
+
+-- How the proxy of a returning track comes home with these items: the observer doesn't hold it, and it comes with the items that were given back, or was in the mutator's hand before
+pub record ComesBy (x : SessionState) (i : ℕ) (back : List (Option ServerState)) : Type 0 where
+  pub off : held_slot x.fast i ≡ None
+  pub came : is_some (at back (slot_number (track_at x.normal.tracks i))) ≡ true → (is_coming x.normal x.fast ≡ true) × (at back (slot_number (track_at x.normal.tracks i)) ≡ at (items_given x.fast) (slot_number (track_at x.normal.tracks i)))
+  pub stayed : is_some (at back (slot_number (track_at x.normal.tracks i))) ≡ false → none_comes x.normal x.fast (slot_number (track_at x.normal.tracks i))
+  pub there : is_some (in_hand back x.normal.mutator.returned (slot_number (track_at x.normal.tracks i))) ≡ true
 
 -- what is there if one of two is taken, by whether the first is there
 either_there : {X : Type 0} (o p : Option X) → is_some (if is_some o then o else p) ≡ true → (b : Bool) → is_some o ≡ b → (t : X) × ((if is_some o then o else p) ≡ Some t)

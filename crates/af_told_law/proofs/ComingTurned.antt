@@ -1,23 +1,19 @@
 -- What is on its way between the mixers after a turn of the normal mixer that goes on, by what was before it, and where the slots of the observer's state lead.
 use Rattle.std.proofs.Common.{◌≡◌, ◌≢◌, ⊎_elim, ℕ, ◌-◌, ◌<◌, ◌&&◌, not, nat_lt, Bool, true, false, true≢false, is_some, List, [], ◌∷◌, ◌++◌, length, Option, Some, None, refl, sym, ap, subst, ◌∙◌, arith}
-use Rattle.af_told_law.proofs.Common.{AreTogether, FastState, HasStateHistory, IsLegal, Links, MutatorPoint, NormalState, ObserverPoint, Outside, Polls, Pushes, Run, ServerState, Session, SessionState, StreamNames, Turn, and_parts, at, away_slot, carries, cases_eq, cycle_frames, fold-append, is_pushed, kept_of, lt-ltb, mutated, not-true, observed, observer_next, observer_start, pushed_states, slot_for, slot_number, slots, state_at, track_at, turn_of}
+use Rattle.af_told_law.proofs.Common.{AreTogether, FastState, HasStateHistory, IsLegal, Links, MutatorPoint, NormalState, ObserverPoint, Outside, Polls, Pushes, Run, ServerState, Session, SessionState, StreamNames, Turn, and_parts, at, away_slot, both_first, carries, cases_eq, cycle_frames, fold-append, is_pushed, kept_of, lt-ltb, mutated, not-true, observed, observer_next, observer_start, pushed_states, slot_for, slot_number, slots, state_at, track_at, turn_of}
 use Rattle.af_told_law.specs.Leads.{Leads}
 use Rattle.af_model.specs.declared.states.MutatorEvent.TheVariants as mutator
 use Rattle.af_model.specs.declared.states.ObserverEvent.TheVariants as observer
 use Rattle.af_told_law.proofs.NormalSteps.{turned_leads}
 use Rattle.af_told_law.proofs.QueueSeen.{SawUpTo, few_seen}
 use Rattle.af_told_law.specs.Between.{StandsBefore}
-use Rattle.af_told_law.specs.Places.{IsLentBy, StreamsGo, slot_in, told_by}
+use Rattle.af_told_law.proofs.Places.{IsLentBy, StreamsGo, slot_in}
 use Rattle.af_told_law.specs.QueueTurned.{QueueKnown}
-use Rattle.af_told_law.specs.Tells.{Tells, held_slot, is_coming, is_going, items_given}
+use Rattle.af_told_law.specs.Tells.{Tells, held_slot, is_coming, is_going, items_given, mutated_by}
 use Rattle.af_told_law.proofs.LooksTurned.{all_polled, coming_parts, level, sane, unseen}
 use Rattle.af_told_law.proofs.SlotHeld.{found_carries, found_track}
 use Rattle.af_told_law.proofs.StateBefore.{before_told}
 use Rattle.af_told_law.specs.Deeds.{Deeds}
-
-first_of : (a b : Bool) → true ≡ (a && b) → a ≡ true
-first_of true b is = refl
-first_of false b is = absurd (true≢false is)
 
 module _ (links : Links) (x : SessionState) (n : NormalState) (o : Outside) (legal : IsLegal o x.normal n) (runs : (turn_of n.entry).ended ≡ false) (goes : StreamsGo o x.normal n (turn_of n.entry)) (before : AreTogether links x) (after : AreTogether links (record x { normal = n }))
     (stands : StandsBefore x) (c d : ℕ) (later : HasStateHistory x.normal.mutator.past.first (n.mutator.past.events ++ mutator.Learn c ∷ []) (x.fast.observer.past.events ++ observer.Learn d ∷ [])) where
@@ -31,7 +27,7 @@ module _ (links : Links) (x : SessionState) (n : NormalState) (o : Outside) (leg
   f = x.fast.observer.past
 
   abbrev t : MutatorPoint ServerState
-  t = told_by x.normal
+  t = mutated_by x.normal
 
   pushed_is : t.pushed ≡ m.number
   pushed_is = stands.step.tells.pushed m.first
@@ -49,13 +45,13 @@ module _ (links : Links) (x : SessionState) (n : NormalState) (o : Outside) (leg
   pub coming_before : is_coming n x.fast ≡ true → (is_pushed e.push ≡ false) × (e.ack ≡ false) × (is_coming x.normal x.fast ≡ true)
   coming_before coming = by_push (is_pushed e.push) refl
     where
-      parts : (not (is_going n x.fast) ≡ true) × (not (told_by n).clear ≡ true)
-      parts = and_parts (not (is_going n x.fast)) (not (told_by n).clear) coming
+      parts : (not (is_going n x.fast) ≡ true) × (not (mutated_by n).clear ≡ true)
+      parts = and_parts (not (is_going n x.fast)) (not (mutated_by n).clear) coming
 
       by_push : (b : Bool) → is_pushed e.push ≡ b → (is_pushed e.push ≡ false) × (e.ack ≡ false) × (is_coming x.normal x.fast ≡ true)
       by_push true is = absurd (true≢false (sym (pushed_going is) ∙ not-true (is_going n x.fast) parts.0))
       by_push false off =
-          let ack : e.ack ≡ false = sym (goes.queue.same_clear off pushed_is) ∙ not-true (told_by n).clear parts.1 in
+          let ack : e.ack ≡ false = sym (goes.queue.same_clear off pushed_is) ∙ not-true (mutated_by n).clear parts.1 in
           let none : is_going x.normal x.fast ≡ false = ap (λ (k : ℕ). nat_lt f.number k) (sym (goes.queue.still off).0) ∙ not-true (is_going n x.fast) parts.0 in
           (off, ack, (λ j. not (none j) && not (unseen x n o legal runs goes before.fast.0 stands.step stands.history c d later ack j)))
 
@@ -63,7 +59,7 @@ module _ (links : Links) (x : SessionState) (n : NormalState) (o : Outside) (leg
   coming_now off ack coming =
       let parts = and_parts (not (is_going x.normal x.fast)) (not t.clear) coming in
       let none : is_going n x.fast ≡ false = ap (λ (k : ℕ). nat_lt f.number k) (goes.queue.still off).0 ∙ not-true (is_going x.normal x.fast) parts.0 in
-      let clear : (told_by n).clear ≡ false = goes.queue.same_clear off pushed_is ∙ ack in
+      let clear : (mutated_by n).clear ≡ false = goes.queue.same_clear off pushed_is ∙ ack in
       (λ j. not (none j) && not (clear j))
 
   -- ## Where the observer's state leads
@@ -125,7 +121,7 @@ module _ (links : Links) (x : SessionState) (n : NormalState) (o : Outside) (leg
     pub lent_new : (p : ServerState) → 0 < m.number → at t.items (slot_in n i) ≡ Some p → ⊥
     lent_new p some here =
         let sent = (sane x n o legal runs goes before.fast.0 stands.step stands.history c d later).sent (let same = pushed_is in omega (arith, some, same)) in
-        let on : carries t.last slot ≡ true = first_of (carries t.last slot) _ (sym (ap is_some here) ∙ sent.1 slot lent_low) in
+        let on : carries t.last slot ≡ true = both_first (carries t.last slot) _ (sym (sent.1 slot lent_low) ∙ ap is_some here) in
         true≢false (sym on ∙ ap (λ (y : FastState). carries y slot) (stands.step.tells.last some m.first) ∙ lent.last)
 
     -- no item is on its way back for the slot, if the last state isn't seen acknowledged
@@ -135,7 +131,7 @@ module _ (links : Links) (x : SessionState) (n : NormalState) (o : Outside) (leg
         let some : 0 < m.number = (legal.legal.goes_on runs).ack off in
         let all : (observed f.events).acked ≡ t.pushed = before.fast.0.observer.told.acked ∙ parts.0 ∙ sym pushed_is in
         let given = (sane x n o legal runs goes before.fast.0 stands.step stands.history c d later).given parts.1 all in
-        let on : carries t.before slot ≡ true = first_of (carries t.before slot) _ (sym (ap is_some here) ∙ given.1 slot lent_low) in
+        let on : carries t.before slot ≡ true = both_first (carries t.before slot) _ (sym (given.1 slot lent_low) ∙ ap is_some here) in
         let many : 0 < length (pushed_states m.events) = subst (λ (ys : List FastState). 0 < length ys) (sym told.normal.states) (some_pushed some) in
         let state : t.before ≡ m.before =
         ap (λ (y : FastState). (mutated y m.events).before) told.shared.first

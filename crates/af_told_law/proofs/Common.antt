@@ -1,5 +1,5 @@
 -- The names of other crates that the proofs of this one cite, passed on from one place. Declares nothing.
-pub use Rattle.af_base.proofs.Basics.{and_off, both, get_set_other, get_set_same, half, is_not_below, le-power, neither, no, not_below_is, or_false, or_right, range_end, some_at}
+pub use Rattle.af_base.proofs.Basics.{and_off, both, get_set_other, get_set_same, half, is_not_below, le-power, neither, no, not_below_is, or_false, or_right, or_true, range_end, some_at}
 pub use Rattle.af_base.specs.Command.{code_of}
 pub use Rattle.af_base.specs.Log.{Logged, absent, count_seen, entry_slot, frames_taken, slots}
 pub use Rattle.af_base.specs.Sample.{packed_word}
@@ -63,7 +63,7 @@ pub use Rattle.af_life.specs.declared.kept.TrackKept.{TrackKept}
 pub use Rattle.af_link.specs.PipeEnds.{OutSide, SeesTaken}
 pub use Rattle.af_link.specs.declared.links.Links.{Links}
 pub use Rattle.af_link.specs.declared.names.StreamNames.{StreamNames}
-pub use Rattle.af_model.proofs.Basics.{both_lawful, kept_more, lawful_first, not_true, same_before, same_length, state_next}
+pub use Rattle.af_model.proofs.Basics.{both_first, both_lawful, kept_more, lawful_first, not_true, same_before, same_length, state_next}
 pub use Rattle.af_model.proofs.Splits.{legal_at, ones_append}
 pub use Rattle.af_model.specs.ClientCalls.{ClientKept, IsClientList, client_call_events, client_kept}
 pub use Rattle.af_model.specs.Cycles.{Found, IsSeen, LegalCycle, Listed, LooksBy, Mixes, SubmixSlot, TrackSlot, UseUpTo, cold_done, cold_of, cycle_events, cycle_of, events_behind_look, has_exit, is_cold, is_mixed, kept, last_used, place_of, state_of, still_entry, taken_before, takes_shown}

@@ -1,6 +1,6 @@
 -- Where the edits of a turn leave the items of the queue, track by track.
-use Rattle.std.proofs.Common.{◌≡◌, ◌≢◌, ℕ, zero, suc, ◌<◌, ◌≤◌, ◌&&◌, ◌⊎◌, inl, inr, Bool, true, false, true≢false, MatchBool, sym, refl, ap, subst, ◌∙◌, List, [], ◌∷◌, length, length-set, Option, Some, None, ⊎_elim, get_or-set_same, get_or-set_other, arith}
-use Rattle.af_told_law.proofs.Common.{EditsTo, EditsTrack, IsSound, Lends, LetsGo, NormalState, Returning, ServerState, Setup, TrackKept, apart, at, at_here, at_other, away_holds, cases_eq, cases_lt, comer_holds, comer_inside, comer_slot, entered, holds, is_home, kept_of, known_by, leaver_away, lends, lent_by, lets_go, must_enter, must_leave, none-some, nothing_heard, set_each, setting_of, setup_of, slice_set, slot_number, slots, sound_go, sound_lend, stream_at, track_at}
+use Rattle.std.proofs.Common.{◌≡◌, ◌≢◌, ℕ, zero, suc, ◌<◌, ◌≤◌, ◌⊎◌, inl, inr, Bool, true, false, true≢false, MatchBool, sym, refl, ap, subst, ◌∙◌, List, [], ◌∷◌, length, length-set, Option, Some, None, ⊎_elim, get_or-set_same, get_or-set_other, arith}
+use Rattle.af_told_law.proofs.Common.{EditsTo, EditsTrack, IsSound, Lends, LetsGo, NormalState, Returning, ServerState, Setup, TrackKept, apart, at, at_here, at_other, away_holds, both_first, cases_eq, cases_lt, comer_holds, comer_inside, comer_slot, entered, holds, is_home, kept_of, known_by, leaver_away, lends, lent_by, lets_go, must_enter, must_leave, none-some, nothing_heard, set_each, setting_of, setup_of, slice_set, slot_number, slots, sound_go, sound_lend, stream_at, track_at}
 use Rattle.af_server.specs.Slot.{listed}
 
 -- an item that stands after one was written is that one, or stood before
@@ -13,11 +13,7 @@ item_set (o ∷ items) (suc k) v (suc j) t e = ⊎_elim (λ (p : (j ≡ k) × (v
 
 -- a track that enters is home
 entering_home : (s : TrackKept) → must_enter s ≡ true → is_home s.holder ≡ true
-entering_home s e = first (is_home s.holder) _ e
-  where
-    first : (a b : Bool) → (a && b) ≡ true → a ≡ true
-    first true b e = refl
-    first false b e = absurd (true≢false (sym e))
+entering_home s e = both_first (is_home s.holder) _ e
 
 module _ (x : NormalState) (fine : (i : ℕ) → (setting_of (setup_of x) i).scale ≤ 4096) where
   abbrev slot_at : ℕ → ℕ

@@ -1,11 +1,20 @@
 -- The ends of a session that a run tells keep the lists of that run.
 use Rattle.std.proofs.Common.{◌≡◌, ℕ, ◌<◌, true, List, slice_get, Some, sym, ap, subst, ◌∙◌, arith}
-use Rattle.af_told_law.proofs.Common.{BlockTold, ClientState, KeepsClient, PartyState, Run, ServerEvent, ServerState, Session, SessionState, Side, Track, is_tame, server_list, client_side, side_of_proxy, slice_get_within, told_at, track_count}
+use Rattle.af_told_law.proofs.Common.{BlockTold, ClientState, KeepsClient, Marks, PartyState, Run, ServerEvent, ServerState, Session, SessionState, Side, Track, client_side, is_tame, server_list, side_of_proxy, slice_get_within, stream_at, told_at, track_count}
 use Rattle.af_session.specs.Ends.{ends_from}
 use Rattle.af_told_law.specs.Alike.{TellAlike}
-use Rattle.af_told_law.specs.Deeds.{DeedTold, Deeds, SawOwnBy, SawOwnOf, done_on, tame_marks}
-use Rattle.af_told_law.specs.KeptEnds.{KeepsLists, KeepsProxy, KeepsTrack, SawAtHome}
+use Rattle.af_told_law.specs.Deeds.{DeedTold, Deeds, SawOwnBy, SawOwnOf, done_on}
+use Rattle.af_told_law.specs.KeptEnds.{KeepsLists, KeepsProxy, KeepsTrack}
 use Rattle.af_told_law.specs.Tells.{Tells, TellsServer, TellsTrack}
+
+-- of each stream proxy that is home, and of each command proxy, each front seen is the server's own if no poke was told
+pub record SawAtHome (s : Session) (run : Run) (d : Deeds) (x : SessionState) : Type 0 where
+  pub streams : (i : ℕ) (t : ServerState) → i < track_count s → stream_at x.normal.streams i ≡ Some t → is_tame (told_at run i).stream ≡ true → SawOwnOf (told_at run i).stream.shape (d.streams i)
+  pub commands : (i : ℕ) → i < track_count s → is_tame (told_at run i).commands ≡ true → SawOwnOf (told_at run i).commands.shape (d.commands i)
+
+-- the blocks that weren't poked so far
+abbrev pub tame_marks : Run → Marks
+tame_marks run = record { streams = λ i. is_tame (told_at run i).stream; commands = λ i. is_tame (told_at run i).commands }
 
 -- a client's side is the one told
 keeps_client : (b : BlockTold) (c : ClientState) → client_side b ≡ side_of_proxy c → KeepsClient b c.pass.part.events c.pass.part.frames

@@ -4,29 +4,14 @@ use Rattle.af_told_law.proofs.Common.{NormalKept, PartyState, Run, Session, Sess
 use Rattle.af_session.specs.Rounds as parties
 use Rattle.af_told_law.specs.Tells.{Tells, TellsTrack}
 use Rattle.af_told_law.specs.Deeds.{Deeds}
+use Rattle.af_told_law.proofs.ClientTold.{others_told}
 
 module _ (s : Session) (run : Run) {d : Deeds} (x : SessionState) (h : Tells s run d x) where
   abbrev ended_track : ℕ → TrackTold → TrackTold
   ended_track n t = record t { client = ends t.client }
 
   all_ended : Tells s (each_track ended_track run) d (record x { clients = map end_party x.clients })
-  all_ended = record {
-    count = (each_long ended_track 0 run.tracks ∙ h.count.0, length-map x.clients end_party ∙ h.count.1);
-    tracks = λ i q is. ended_at i q is;
-    shared = record {
-      first = h.shared.first;
-      mutator = h.shared.mutator;
-      observer = h.shared.observer;
-      reader = h.shared.reader;
-      writer = h.shared.writer;
-      puts = record { told = h.shared.puts.told; words = h.shared.puts.words };
-      takes = h.shared.takes;
-      taken = h.shared.taken;
-      size = h.shared.size;
-    };
-    normal = record { setup = h.normal.setup; kept = h.normal.kept; hands = h.normal.hands; states = h.normal.states; number = h.normal.number; last = h.normal.last };
-    fast = record { frames = h.fast.frames; cycles = h.fast.cycles; current = h.fast.current; state = h.fast.state; entries = h.fast.entries; logged = h.fast.logged; exited = h.fast.exited; reports = h.fast.reports; fresh = h.fast.fresh };
-  }
+  all_ended = others_told s run x h (each_track ended_track run).tracks (map end_party x.clients) (each_long ended_track 0 run.tracks) (length-map x.clients end_party) ended_at
     where
       ended_at : (i : ℕ) (q : PartyState) → slice_get (map end_party x.clients) i ≡ Some q → TellsTrack s x.normal x.fast d i (told_at (each_track ended_track run) i) q
       ended_at i q is =

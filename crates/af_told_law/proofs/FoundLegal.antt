@@ -1,7 +1,7 @@
 -- A turn that saw what a run has found is legal by it: by the own fronts of the lawful blocks, and on other blocks by the fronts that it really saw.
 use Rattle.std.proofs.Common.{◌≡◌, ◌⊎◌, inl, inr, ℕ, ◌<◌, Bool, true, false, true≢false, if◌then◌else◌, List, [], length, refl, sym, ap, ◌∙◌, subst}
 use Rattle.af_told_law.proofs.Common.{IsSound, LegalLooks, LegalTurn, LegalTurnBy, Listed, LooksBy, Marks, NormalKept, Outside, Setup, Shape, SlotEntry, Turn, TurnFound, after_ack, asked, ended_turn, front_of, fronts_by, is_home, lawful_front, learnt, listed, outside_of, server_list, take_front, takes_from, track_at, track_in}
-use Rattle.af_told_law.specs.Outsides.{AnswerAlike, AreAlike, IsFound, SameFront, SameFronts, SawCommands, SawStream}
+use Rattle.af_told_law.proofs.Outsides.{AnswerAlike, AreAlike, IsFound, SameFront, SameFronts, SawCommands, SawStream}
 use Rattle.af_told_law.proofs.KeptAlike.{looks_told}
 use Rattle.af_told_law.proofs.KeptLooks.{all_looks_alike}
 use Rattle.af_told_law.proofs.LegalAlike.{all_looks_same, legal_alike, looks_same}

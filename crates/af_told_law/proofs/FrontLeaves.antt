@@ -1,6 +1,6 @@
 -- What a look leaves of its server is the same by each front by which it may have answered so.
 use Rattle.std.proofs.Common.{◌≡◌, ℕ, ◌^◌, ◌==◌, ◌&&◌, ◌||◌, not, min, nat_lt, Bool, true, false, true≢false, if◌then◌else◌, Some, None, refl, sym, ap, ◌∙◌, subst, eqb-true, arith}
-use Rattle.af_told_law.proofs.Common.{Listed, Seen, Shape, SlotEntry, ahead, ahead_behind, ahead_itself, ahead_word, behind, both, dropped_by, flush_position, flushed_front, front_by_answer, front_of, is_not_below, is_noticed, is_own_inside, kept, leaves_open, look_at, not_below_is, not_true, outside, own_front, past_front, wrapped}
+use Rattle.af_told_law.proofs.Common.{Listed, Seen, Shape, SlotEntry, ahead, ahead_behind, ahead_itself, ahead_word, behind, both, dropped_by, flush_position, flushed_front, front_by_answer, front_of, is_not_below, is_noticed, is_own_inside, kept, leaves_open, look_at, not_below_is, not_true, or_true, outside, own_front, past_front, wrapped}
 use Rattle.af_base.specs.declared.seen.Seen.TheVariants as seen
 use Rattle.af_judge.proofs.LookFront.{noticed_new}
 
@@ -19,7 +19,7 @@ module _ (k : Shape) (old asked : ℕ) (slot : SlotEntry) (f : ℕ) (answers : s
   Same g = Leaves k old slot.flush slot.rear f g
 
   -- P holds of the answer if it holds of each answer that the look may give
-  by_answer : (P : Seen → Type 0) → (is_noticed k (not (slot.flush == old)) slot.rear f ≡ true → P (seen.Flushed (dropped_by k.wrap slot.flush slot.rear f)))
+  pub by_answer : (P : Seen → Type 0) → (is_noticed k (not (slot.flush == old)) slot.rear f ≡ true → P (seen.Flushed (dropped_by k.wrap slot.flush slot.rear f)))
       → (is_noticed k (not (slot.flush == old)) slot.rear f ≡ false → nat_lt k.frames (ahead f slot.rear) ≡ true → P (seen.Shut f slot.rear))
       → (is_noticed k (not (slot.flush == old)) slot.rear f ≡ false → nat_lt k.frames (ahead f slot.rear) ≡ false → slot.rear ≡ f → P seen.Empty)
       → (is_noticed k (not (slot.flush == old)) slot.rear f ≡ false → nat_lt k.frames (ahead f slot.rear) ≡ false → P (seen.Frames (min asked (ahead f slot.rear)))) → P slot.seen
@@ -45,10 +45,6 @@ module _ (k : Shape) (old asked : ℕ) (slot : SlotEntry) (f : ℕ) (answers : s
   both_inside g off inside in_too =
       let old_word : not (slot.flush == old) ≡ false = noticed_new (not (slot.flush == old)) (k.wrap == 0) (nat_lt k.frames (ahead f slot.rear)) off inside in
       (off ∙ sym (ap (λ (b : Bool). b && (k.wrap == 0 || not (nat_lt k.frames (ahead g slot.rear)))) old_word), λ _. outside_none f inside ∙ sym (outside_none g in_too))
-
-  or_true : (b : Bool) → (b || true) ≡ true
-  or_true true = refl
-  or_true false = refl
 
   -- if a flush was noticed, it is noticed by each front that lies in the block
   both_notice : (g : ℕ) → is_noticed k (not (slot.flush == old)) slot.rear f ≡ true → (k.wrap == 0 || not (nat_lt k.frames (ahead g slot.rear))) ≡ true → Same g

@@ -1,6 +1,6 @@
 -- A stream proxy that is home after a turn of the normal mixer, or is lent by it, was home once the acknowledgement was seen.
-use Rattle.std.proofs.Common.{◌≡◌, inl, inr, ℕ, zero, suc, ◌==◌, ◌&&◌, Bool, true, false, true≢false, if◌then◌else◌, fold, List, [], ◌∷◌, length, refl, sym, ap, ◌∙◌, subst}
-use Rattle.af_told_law.proofs.Common.{Command, IsSound, Learnt, NormalKept, Returning, Setup, TakeSeen, TrackKept, Turn, after_ack, after_edits, after_push, after_take, after_takes, after_tracks, asked, at_set, code_of, draft_commanded as with_command, edited, edited_to, entered, is_home, lend, lent_by, let_go, must_enter, must_leave, ordered, push_tracks, slice_set, sound_acked, track_at, turn_after}
+use Rattle.std.proofs.Common.{◌≡◌, inl, inr, ℕ, zero, suc, ◌==◌, Bool, true, false, true≢false, if◌then◌else◌, fold, List, [], ◌∷◌, length, sym, ap, ◌∙◌, subst}
+use Rattle.af_told_law.proofs.Common.{Command, IsSound, Learnt, NormalKept, Returning, Setup, TakeSeen, TrackKept, Turn, after_ack, after_edits, after_push, after_take, after_takes, after_tracks, asked, at_set, both_first, code_of, draft_commanded as with_command, edited, edited_to, entered, is_home, lend, lent_by, let_go, must_enter, must_leave, ordered, push_tracks, slice_set, sound_acked, track_at, turn_after}
 use Rattle.af_life.specs.Edits.{mutated}
 use Rattle.af_told_law.proofs.TurnAlike.{served_holder}
 
@@ -53,11 +53,7 @@ module _ (c : Setup) (k : Learnt) (m : NormalKept) (e : Turn) (i : ℕ) (sound :
 
   -- one that is to be lent was home before
   pub enters_before : must_enter (track_at (after_tracks c k e acked).tracks i) ≡ true → HomeAt i acked.tracks
-  enters_before enters = served_before (first (is_home (track_at (after_tracks c k e acked).tracks i).holder) _ enters)
-    where
-      first : (a b : Bool) → (a && b) ≡ true → a ≡ true
-      first true b e = refl
-      first false b e = e
+  enters_before enters = served_before (both_first (is_home (track_at (after_tracks c k e acked).tracks i).holder) _ enters)
 
   -- one that is home after the turn was home before
   pub turned_before : e.ended ≡ false → HomeAt i (turn_after c k m e).tracks → HomeAt i acked.tracks

@@ -32,11 +32,7 @@ module _ (k : Shape) where
   undropped_alike (server.SawRear rear ∷ es) a b none h = undropped_alike es (server_keeps k a (server.SawRear rear)) (server_keeps k b (server.SawRear rear)) none (ap (λ (z : ServerKept). bare (server_keeps k z (server.SawRear rear))) h)
   undropped_alike (server.SawFront front ∷ es) a b none h = undropped_alike es (server_keeps k a (server.SawFront front)) (server_keeps k b (server.SawFront front)) none (ap (λ (z : ServerKept). bare (server_keeps k z (server.SawFront front))) h)
   undropped_alike (server.Take count ∷ es) a b none h = undropped_alike es (server_keeps k a (server.Take count)) (server_keeps k b (server.Take count)) none (ap (λ (z : ServerKept). bare (server_keeps k z (server.Take count))) h)
-  undropped_alike (server.SawGain word ∷ es) a b none h = undropped_alike es a b none h
-  undropped_alike (server.Tally missing ∷ es) a b none h = undropped_alike es a b none h
-  undropped_alike (server.SetFlags bits ∷ es) a b none h = undropped_alike es a b none h
-  undropped_alike (server.SetStatus word ∷ es) a b none h = undropped_alike es a b none h
-  undropped_alike (server.Learn count ∷ es) a b none h = undropped_alike es a b none h
+  undropped_alike (_ ∷ es) a b none h = undropped_alike es a b none h
 
   -- ## A look
 

@@ -1,9 +1,8 @@
 -- What is known of the queue and of the report stays known while no turn of the normal mixer is made.
-use Rattle.std.proofs.Common.{◌≡◌, ℕ, ◌-◌, ◌<◌, ◌==◌, ◌||◌, Bool, true, false, if◌then◌else◌, fold, inr, List, [], ◌∷◌, ◌++◌, length, refl, sym, ap, subst, ◌∙◌, arith}
-use Rattle.af_told_law.proofs.Common.{EntrySeen, FastState, Frame, IsNewSession, Item, MutatorEvent, NormalState, ObserverEvent, QueueTold, RoundSeen, Run, ScriptData, Session, SessionState, SharedState, calls_alone, cycle_alone, cycle_frames, is_look_at, list_any, list_any-append, met, new_run, observer_does, one, ones, or_false, queue_met, session_of, state_at, two, was_seen, with_ends, with_mix, with_poll}
+use Rattle.std.proofs.Common.{◌≡◌, ℕ, ◌-◌, ◌<◌, ◌==◌, ◌||◌, Bool, true, false, if◌then◌else◌, fold, inr, List, [], ◌∷◌, length, refl, sym, ap, subst, ◌∙◌, arith}
+use Rattle.af_told_law.proofs.Common.{EntrySeen, FastState, Frame, IsNewSession, Item, NormalState, ObserverEvent, QueueTold, RoundSeen, Run, ScriptData, Session, SessionState, SharedState, calls_alone, cycle_alone, cycle_frames, is_look_at, list_any, list_any-append, met, new_run, observer_does, ones, or_false, queue_met, session_of, state_at, was_seen, with_ends, with_mix, with_poll}
 use Rattle.af_model.specs.declared.states.MutatorEvent.TheVariants as mutator
-use Rattle.af_model.specs.declared.states.ObserverEvent.TheVariants as observer
-use Rattle.af_told_law.proofs.Basics.{ones_observed}
+use Rattle.af_judge.proofs.QueueSteps.{ones_met, ones_stay}
 use Rattle.af_told_law.specs.QueueTurned.{QueueKnown, ReportMet}
 
 abbrev Looks : QueueTold → QueueTold → Type 0
@@ -20,16 +19,11 @@ known_same frames run after m n states looks clear before known = record {
 
 -- ## Looks in a list
 
-ones_met : (told : QueueTold) (c d : ℕ) → ones (told ++ one (mutator.Learn c) ∷ two (observer.Learn d) ∷ []) ≡ ones told ++ mutator.Learn c ∷ []
-ones_met [] c d = refl
-ones_met (one a ∷ told) c d = ap (λ (l : List (MutatorEvent Item)). a ∷ l) (ones_met told c d)
-ones_met (two b ∷ told) c d = ones_met told c d
-
 looks_met : (told : QueueTold) → Looks told (queue_met told)
 looks_met told k = ap (list_any (is_look_at k)) (ones_met told _ _) ∙ list_any-append (is_look_at k) (ones told) (mutator.Learn _ ∷ []) ∙ or_false (was_seen k told)
 
 looks_observed : (told : QueueTold) (es : List (ObserverEvent Item)) → Looks told (observer_does es told)
-looks_observed told es k = ap (list_any (is_look_at k)) (ones_observed told es)
+looks_observed told es k = ap (list_any (is_look_at k)) (ones_stay told es)
 
 -- ## Steps of a run
 
@@ -53,11 +47,11 @@ quiet_ends run = by_end run.normal.ended
     by_end true = record { states = refl; looks = (λ k. refl) }
     by_end false = record { states = refl; looks = (λ k. refl) }
 
-quiet_poll : (s : Session) (k : ℕ) (run : Run) → Quiet run (with_poll s k run)
+pub quiet_poll : (s : Session) (k : ℕ) (run : Run) → Quiet run (with_poll s k run)
 unfolding with_poll
 quiet_poll s k run = record { states = refl; looks = looks_observed run.queue _ }
 
-quiet_mix : (s : Session) (e : EntrySeen) (run : Run) → Quiet run (with_mix s e run)
+pub quiet_mix : (s : Session) (e : EntrySeen) (run : Run) → Quiet run (with_mix s e run)
 unfolding with_mix
 quiet_mix s e run = record { states = refl; looks = (λ k. refl) }
 

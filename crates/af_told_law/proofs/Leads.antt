@@ -1,19 +1,15 @@
 -- Which tracks the slots of states lead to, through a turn of the normal mixer: each leads to a track whose proxy isn't home.
 use Rattle.std.proofs.Common.{◌≡◌, ◌≢◌, ℕ, zero, suc, ◌<◌, ◌≤◌, ◌&&◌, ◌⊎◌, not, Bool, true, false, true≢false, if◌then◌else◌, List, length, map, refl, sym, ap, subst, ◌∙◌, ⊎_elim, arith}
-use Rattle.af_told_law.proofs.Common.{All, Busy, CarriesNone, Clean, Command, FastState, IsSound, Learnt, NormalKept, Push, Pushed, Setup, Sound, TrackKept, Turn, acked_len, after_ack, after_edits, after_push, after_takes, after_tracks, asked, carries, cases_eq, comes_home, detached, edited, edited_to, entered, is_home, is_lent, is_returning, lend, lent_by, let_go, must_enter, must_leave, no, number_of, ordered, served_len, setting_of, slice_set, slot_number, slot_of, slots, sound_edits, stays_all, stays_out, track_at, turn_after, welcomed}
+use Rattle.af_told_law.proofs.Common.{All, Busy, CarriesNone, Clean, Command, FastState, FastTrack, Heard, Home, IsSound, Learnt, Lent, NormalKept, Push, Pushed, Returning, Setup, Sound, StaysPut, TrackKept, Turn, acked_len, after_ack, after_edits, after_push, after_takes, after_tracks, asked, at_here, at_set, carries, cases_eq, comer_inside, comer_slot, comes_home, detached, edited, edited_to, entered, is_home, is_lent, is_returning, leaver_slot, lend, lent_by, let_go, must_enter, must_leave, no, number_of, ordered, served_len, setting_of, slice_set, slot_number, slot_of, slots, sound_edits, stay_put, stays_all, stays_out, track_at, turn_after, welcomed, welcomed_at}
 use Rattle.af_normal.proofs.OrderSound.{sound_acked}
 use Rattle.af_normal.proofs.OrderSlots.{sound_served}
-use Rattle.af_base.specs.declared.state.FastTrack.{FastTrack}
-use Rattle.af_life.proofs.Basics.{at_here, at_set, lent_away, welcomed_at}
-use Rattle.af_life.specs.declared.kept.Heard.{Heard}
+use Rattle.af_life.proofs.Basics.{lent_away}
 use Rattle.af_life.specs.declared.kept.Holder.{Holder}
-use Rattle.af_life.specs.declared.kept.Holder.TheVariants.{Home, Lent, Returning}
 use Rattle.af_life.specs.declared.kept.Setting.{Setting}
 use Rattle.af_life.specs.Edits.{mutated}
-use Rattle.af_normal.proofs.OrderEdits.{comer_inside, comer_slot, leaver_slot}
-use Rattle.af_normal.proofs.OrderServed.{StaysPut, stay_put}
 use Rattle.af_stateq.proofs.Bits.{attached_else, detached_else, detached_here, slot_else, slot_here}
 use Rattle.af_told_law.specs.Leads.{LeadAway, LeadLent, Leads}
+use Rattle.af_base.proofs.Basics.{and_none}
 
 -- the track of a slot of a state
 abbrev led : FastState → ℕ → ℕ
@@ -31,12 +27,7 @@ module _ (tracks now : List TrackKept) (put : (j : ℕ) → StaysPut (track_at t
 -- ## What comes home
 
 carried_stays : (last : FastState) (s : TrackKept) → carries last (slot_number s) ≡ true → comes_home last s ≡ false
-carried_stays last s on = by_returning (is_returning s.holder) (carries last (slot_number s)) on
-  where
-    by_returning : (a b : Bool) → b ≡ true → (a && not b) ≡ false
-    by_returning true true e = refl
-    by_returning true false e = no e
-    by_returning false b e = refl
+carried_stays last s on = and_none (is_returning s.holder) (not (carries last (slot_number s))) (ap not on)
 
 lent_stays : (last : FastState) (s : TrackKept) → is_lent s.holder ≡ true → comes_home last s ≡ false
 lent_stays last s lent = ap (λ (b : Bool). b && not (carries last (slot_number s))) (not_returning s.holder lent)

@@ -5,7 +5,7 @@ use Rattle.af_base.specs.declared.event.ServerEvent.TheVariants as server
 use Rattle.af_base.specs.declared.seen.Seen.TheVariants as seen
 use Rattle.af_life.specs.Obeys.{slot_for}
 use Rattle.af_model.specs.declared.states.MutatorEvent.TheVariants as mutator
-use Rattle.af_told_law.specs.Outsides.{AnswerAlike, AreAlike, LearnAlike, SameFront, SameFronts}
+use Rattle.af_told_law.proofs.Outsides.{AnswerAlike, AreAlike, LearnAlike, SameFront, SameFronts}
 use Rattle.af_told_law.proofs.TakenHome.{each_take}
 use Rattle.af_told_law.proofs.TurnAlike.{after_edits_same, heard_then_same, learn_alike, ready_then_same, tracks_same}
 

@@ -55,6 +55,8 @@ pub mod FastForm
 pub mod FastGrows
 pub mod SmallRuns
 pub mod MarkedRuns
+pub mod Outsides
+pub mod Places
 pub mod EditPlaces
 pub mod HandedTurn
 pub mod AckPlaces

@@ -4,7 +4,7 @@ use Rattle.af_told_law.proofs.Common.{AllByRecursion, IsSound, LegalLooks, Legal
 use Rattle.af_base.specs.declared.event.ServerEvent.TheVariants as server
 use Rattle.af_told_law.proofs.OneTake.{one_take}
 use Rattle.af_told_law.specs.Alike.{TellAlike}
-use Rattle.af_told_law.specs.Outsides.{AreAlike, ListAlike}
+use Rattle.af_told_law.proofs.Outsides.{AreAlike, ListAlike}
 use Rattle.af_told_law.proofs.KeptAlike.{NoDrops}
 use Rattle.af_told_law.proofs.KeptLooks.{all_alike, more_alike, takes_alike}
 use Rattle.af_told_law.proofs.LegalAlike.{invalid_same}

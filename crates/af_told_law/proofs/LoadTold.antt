@@ -1,25 +1,11 @@
 -- The load of the report is a step of its own: the reader's list grows by it, and nothing else does.
-use Rattle.std.proofs.Common.{◌≡◌, ℕ, map, List, [], ◌∷◌, ◌++◌, refl, sym, ap, ◌∙◌}
-use Rattle.af_told_law.proofs.Common.{BlockTold, Event, Load, MixerState, NormalState, PartyState, ReaderEvent, Report, Run, ServerEvent, Session, SessionState, TrackTold, Turn, going, one, ones, report_of, told_at, two, twos, with_load}
+use Rattle.std.proofs.Common.{◌≡◌, ℕ, List, [], ◌∷◌, ◌++◌, sym, ap, ◌∙◌}
+use Rattle.af_told_law.proofs.Common.{BlockTold, Load, MixerState, NormalState, PartyState, ReaderEvent, Report, Run, ServerEvent, Session, SessionState, TrackTold, Turn, going, report_of, told_at, with_load}
 use Rattle.af_link.specs.Reports.{ReaderSide}
 use Rattle.af_told_law.specs.QueueTurned.{QueueKnown}
 use Rattle.af_told_law.specs.Tells.{Tells, TellsStream, TellsTrack}
 use Rattle.af_told_law.specs.Deeds.{Deeds}
-
--- ## The lists of two ends after events of the second
-
-module _ {A B : Type 0} where
-  twos_more : (told : List (Event A B)) (es : List B) → twos (told ++ map two es) ≡ twos told ++ es
-  twos_more [] [] = refl
-  twos_more [] (e ∷ es) = ap (λ (l : List B). e ∷ l) (twos_more [] es)
-  twos_more (one a ∷ told) es = twos_more told es
-  twos_more (two b ∷ told) es = ap (λ (l : List B). b ∷ l) (twos_more told es)
-
-  ones_same : (told : List (Event A B)) (es : List B) → ones (told ++ map two es) ≡ ones told
-  ones_same [] [] = refl
-  ones_same [] (e ∷ es) = ones_same [] es
-  ones_same (one a ∷ told) es = ap (λ (l : List A). a ∷ l) (ones_same told es)
-  ones_same (two b ∷ told) es = ones_same told es
+use Rattle.af_judge.proofs.QueueSteps.{ones_stay, twos_more}
 
 -- ## What the reader of the report has no part in
 
@@ -55,7 +41,7 @@ module _ (s : Session) (run : Run) (y : SessionState) (before : ReaderSide) (e :
         mutator = told.shared.mutator;
         observer = told.shared.observer;
         reader = grows ∙ ap (λ (l : List (ReaderEvent Report)). l ++ loads) told.shared.reader ∙ sym (twos_more run.report loads);
-        writer = told.shared.writer ∙ sym (ones_same run.report loads);
+        writer = told.shared.writer ∙ sym (ones_stay run.report loads);
         puts = record { told = told.shared.puts.told; words = told.shared.puts.words };
         takes = told.shared.takes;
         taken = told.shared.taken;

@@ -3,15 +3,11 @@ use Rattle.std.proofs.Common.{◌≡◌, ◌≢◌, ◌⊎◌, inl, inr, ⊎_eli
 use Rattle.af_told_law.proofs.Common.{Busy, Clean, HasStateHistory, IsInOrder, IsLegal, MutatorEvent, MutatorPoint, NormalKept, NormalState, ObserverEvent, ObserverPoint, Outside, Polls, Push, Pushed, Pushes, ServerState, SessionState, StreamNames, Turn, after_edits, after_push, after_takes, and_parts, append_cancel_left, at, cases_eq, eq-eqb, fold-append, going, commands_exit, is_pushed, kept_of, le-ltb, learnt, lt-ltb, mutated, mutator_list, mutator_next, mutator_start, ne_eqb, not-true, number_seen, observed, observer_next, observer_start, push_list, setup_of, slots, turn_after, turn_of}
 use Rattle.af_model.specs.declared.states.MutatorEvent.TheVariants as mutator
 use Rattle.af_model.specs.declared.states.ObserverEvent.TheVariants as observer
-use Rattle.af_told_law.specs.Places.{StreamsGo, told_by}
-use Rattle.af_told_law.specs.Tells.{is_coming, is_going, items_given, none_comes}
-use Rattle.af_told_law.proofs.AckPlaces.{none_of}
+use Rattle.af_told_law.proofs.Places.{StreamsGo}
+use Rattle.af_told_law.specs.Tells.{is_coming, is_going, items_given, mutated_by, none_comes}
+use Rattle.af_told_law.proofs.AckPlaces.{none_of, first_look}
 use Rattle.af_told_law.proofs.QueueLooks.{IsSane, Looked, history_sane, looked_at, point_of}
 use Rattle.af_told_law.specs.Between.{InReach}
-
--- two looks that begin the same events brought the same
-one_look : (n : ℕ) (a b : List (Option ServerState)) (xs ys : List (MutatorEvent ServerState)) → mutator.SawAck n a ∷ xs ≡ mutator.SawAck n b ∷ ys → a ≡ b
-one_look n a b xs ys e = cc
 
 module _ (x : SessionState) (n : NormalState) (o : Outside) (legal : IsLegal o x.normal n) (runs : (turn_of n.entry).ended ≡ false) (goes : StreamsGo o x.normal n (turn_of n.entry))
     (order : IsInOrder x.fast) (step : InReach x.normal.mutator.past x.fast.observer.past) (before : HasStateHistory x.normal.mutator.past.first x.normal.mutator.past.events x.fast.observer.past.events) (c d : ℕ)
@@ -29,7 +25,7 @@ module _ (x : SessionState) (n : NormalState) (o : Outside) (legal : IsLegal o x
   f = x.fast.observer.past
 
   abbrev t : MutatorPoint ServerState
-  t = told_by x.normal
+  t = mutated_by x.normal
 
   abbrev edits : NormalKept
   edits = after_edits (setup_of x.normal) (learnt o) e k
@@ -56,8 +52,8 @@ module _ (x : SessionState) (n : NormalState) (o : Outside) (legal : IsLegal o x
 
   -- the items of the look are those of either list
   pub back_same : goes.back ≡ legal.lists.back
-  back_same = one_look (number_seen k e.ack) goes.back legal.lists.back _ _ (append_cancel_left m.events _ _
-      (sym list_is ∙ legal.lists.mutator ∙ ap (λ (es : List (MutatorEvent ServerState)). m.events ++ es) (running legal.lists.back legal.lists.again legal.lists.sent)))
+  back_same = (first_look (number_seen k e.ack) goes.back legal.lists.back _ _ (append_cancel_left m.events _ _
+      (sym list_is ∙ legal.lists.mutator ∙ ap (λ (es : List (MutatorEvent ServerState)). m.events ++ es) (running legal.lists.back legal.lists.again legal.lists.sent)))).0
 
   whole : HasStateHistory m.first (m.events ++ mutator.SawAck (number_seen k e.ack) goes.back ∷ (push_list edits e.push goes.again goes.sent ++ mutator.Learn c ∷ [])) os
   whole = subst (λ (es : List (MutatorEvent ServerState)). HasStateHistory m.first es os)

@@ -6,8 +6,12 @@ use Rattle.af_one_turn_run.proofs.OneClientTurn.{call_events, calls_add, calls_e
 use Rattle.af_runs.specs.ClientTurns.{side_of}
 use Rattle.af_runs.specs.Runs.{new_told_track}
 use Rattle.af_told_law.specs.Sizes.{IsSmallRun}
-use Rattle.af_told_law.specs.Marked.{AreRoundsMarked, IsMarkedRun, IsRoundMarked, IsTrackMarked}
+use Rattle.af_told_law.specs.Marked.{IsMarkedRun, IsRoundMarked, IsTrackMarked}
 use Rattle.af_told_law.proofs.TameRuns.{marked_kept}
+
+abbrev pub AreRoundsMarked : Marks → List RoundNoted → Type 0
+AreRoundsMarked marks [] = Unit {0}
+AreRoundsMarked marks (r ∷ rounds) = IsRoundMarked marks r.calls × AreRoundsMarked marks rounds
 
 -- ## Calls
 

@@ -1,6 +1,6 @@
 -- What meetings show of the servers that took part: each front that they saw is their own.
 use Rattle.std.proofs.Common.{◌≡◌, ℕ, ◌+◌, ◌<◌, ◌≤◌, true, false, true≢false, is_some, List, [], ◌∷◌, ◌++◌, length, slice_get, Option, Some, None, refl, sym, ap, ◌∙◌, subst, arith}
-use Rattle.af_told_law.proofs.Common.{AllSeeOwn, AreClientsOf, AreTogether, ClientEvent, ClientState, FastState, HandEvent, HandSide, IsClientList, IsServerList, Links, Made, Meets, MeetsAll, MeetsAway, MeetsStream, Met, MixerState, PartyState, SeesTaken, ServerEvent, ServerKept, ServerState, SessionState, Shape, SpotMet, TrackKept, TrackMet, at, client_made, is_home, is_lawful, item_at, none-some, proxies_of, same_Some, server_begins, server_keeps, server_made, slice_get_within, slot_for, some_at, spot_of, stream_at, track_at}
+use Rattle.af_told_law.proofs.Common.{AllSeeOwn, AreClientsOf, AreTogether, ClientEvent, ClientState, FastState, HandEvent, HandSide, IsClientList, IsServerList, Links, Made, Meets, MeetsAll, MeetsAway, MeetsStream, Met, MixerState, PartyState, SeesTaken, ServerEvent, ServerState, SessionState, Shape, SpotMet, TrackKept, TrackMet, at, client_made, is_home, is_lawful, item_at, none-some, proxies_of, same_Some, server_begins, server_made, slice_get_within, slot_for, some_at, spot_of, stream_at, track_at}
 use Rattle.af_told_law.specs.Leads.{LeadAway}
 use Rattle.af_base.specs.declared.event.ServerEvent.TheVariants as server
 use Rattle.af_client.specs.Order.{IsInOrder as IsClientInOrder}
@@ -8,23 +8,33 @@ use Rattle.af_link.specs.Names.{IsStreamOf}
 use Rattle.af_model.specs.History.{HasHistory}
 use Rattle.af_model.specs.ServerCalls.{meets}
 use Rattle.af_model.proofs.ConsumedCount.{fronts-own}
-use Rattle.af_told_law.specs.Sizes.{AreSmall}
-use Rattle.af_told_law.specs.Own.{SawOwn, SeesOwn}
 use Rattle.af_told_law.proofs.SlotHeld.{found_carries, found_track}
 use Rattle.af_told_law.proofs.TrackMeets.{tracks_are}
+use Rattle.af_told_law.proofs.MixLooks.{own_split}
+
+-- the blocks of the clients have no more frames than a block may have
+pub record AreSmall (y : SessionState) : Type 0 where
+  pub streams : (i : ℕ) (p : PartyState) → slice_get y.clients i ≡ Some p → p.stream.pass.part.shape.frames ≤ 65536
+  pub commands : (i : ℕ) (p : PartyState) → slice_get y.clients i ≡ Some p → p.command.pass.part.shape.frames ≤ 65536
+
+-- each front that the proxy saw is its own
+abbrev pub SawOwn : ServerState → Type 0
+SawOwn s = AllSeeOwn s.pass.part.shape (server_begins s.pass.part.shape) s.pass.part.events
+
+-- On each block whose client hasn't poked, the stream proxy that is home, the one that the observer holds, and the command proxy saw fronts of their own; and each look at the pipe saw the number of frames taken before
+pub record SeesOwn (y : SessionState) : Type 0 where
+  pub homes : (i : ℕ) (p : PartyState) (s : ServerState) → slice_get y.clients i ≡ Some p → is_lawful p.stream.pass.part.events ≡ true → stream_at y.normal.streams i ≡ Some s → SawOwn s
+  pub held : (i : ℕ) (p : PartyState) (s : ServerState) → slice_get y.clients i ≡ Some p → is_lawful p.stream.pass.part.events ≡ true → item_at y.fast.observer.items (slot_for y.fast.observer.past.state i) ≡ Some s → SawOwn s
+  pub commands : (i : ℕ) (p : PartyState) (s : ServerState) → slice_get y.clients i ≡ Some p → is_lawful p.command.pass.part.events ≡ true → slice_get y.normal.commands i ≡ Some s → SawOwn s
+  pub pipe : SeesTaken 0 y.fast.pipe.pass.part.events
 
 -- ## Fronts of a list
-
--- if each front of a list is the server's own, so is each of its first part
-own_first : (k : Shape) (kept : ServerKept) (xs ys : List ServerEvent) → AllSeeOwn k kept (xs ++ ys) → AllSeeOwn k kept xs
-own_first k kept [] ys h = tt
-own_first k kept (x ∷ xs) ys h = (h.0, own_first k (server_keeps k kept x) xs ys h.1)
 
 -- a history of a list with a meeting more shows that each front is the server's own
 own_by_history : (k : Shape) (shown : Option ℕ) (es : List ServerEvent) (count : ℕ) → k.frames ≤ 65536 → IsServerList k shown es → (ce : List ClientEvent) (cf sf : List ℕ) (he : List HandEvent)
     → IsClientList k.frames k.cells k.base ce → HasHistory k ce cf (es ++ server.Learn count ∷ []) sf he → AllSeeOwn k (server_begins k) es
 own_by_history k shown es count few spelled ce cf sf he hers h =
-    own_first k (server_begins k) es (server.Learn count ∷ []) (fronts-own k few h shown hers (meets es shown count spelled))
+    (own_split k (server_begins k) es (server.Learn count ∷ []) (fronts-own k few h shown hers (meets es shown count spelled))).0
 
 -- ## One server
 

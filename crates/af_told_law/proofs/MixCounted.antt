@@ -1,21 +1,16 @@
 -- The report that the fast mixer stores in a mix is the next one of the run, and its slots are empty while no state was used.
-use Rattle.std.proofs.Common.{◌≡◌, ℕ, ◌+◌, ◌<◌, true, fold, List, [], ◌∷◌, ◌++◌, length, Some, refl, sym, ap, ◌∙◌, subst, arith}
-use Rattle.af_told_law.proofs.Common.{AddsCycle, CycleEntry, EntrySeen, FastState, HasStateHistory, IsInOrder, IsNextReport, MixerState, NormalState, Report, Run, Session, WriterEvent, adopted_states, carries, cycle_frames, fold-append, known, known_of, last_of, last_report, last_used, listed, next_report, no_report, report_at, slot_report, slots, state_known, state_of, stream_of, with_looks, with_mix}
-use Rattle.af_model.specs.declared.newest.WriterEvent.TheVariants as writes
-use Rattle.af_told_law.specs.Tells.{IsFresh, TellsFast, TellsNormal, reports_stored}
+use Rattle.std.proofs.Common.{◌≡◌, ℕ, ◌+◌, ◌<◌, true, List, [], ◌∷◌, ◌++◌, length, Some, sym, ap, ◌∙◌, subst, arith}
+use Rattle.af_told_law.proofs.Common.{AddsCycle, CycleEntry, EntrySeen, FastState, HasStateHistory, IsInOrder, IsNextReport, MixerState, NormalState, Report, Run, Session, adopted_states, carries, cycle_frames, fold-append, known, known_of, last_report, last_used, listed, next_report, no_report, report_at, slot_report, slots, state_known, state_of, stream_of, with_looks, with_mix}
+use Rattle.af_told_law.specs.Tells.{IsFresh, TellsFast, TellsNormal}
 use Rattle.af_told_law.proofs.MixReport.{report_told}
 use Rattle.af_told_law.proofs.MixStates.{none_adopted, none_used, same_state, state_told}
-
-last_stored : (r : Report) (es : List (WriterEvent Report)) → last_of r es ≡ fold (λ last report. report) r (reports_stored es)
-last_stored r [] = refl
-last_stored r (writes.Store x ∷ es) = last_stored x es
-last_stored r (writes.Learn c ∷ es) = last_stored r es
+use Rattle.af_told_law.proofs.ReportSeen.{last_stored}
 
 module _ (s : Session) (run : Run) (n : NormalState) (f g : MixerState) (e : EntrySeen) (order : IsInOrder f) (normal : TellsNormal s run n) (fast : TellsFast s run f) (history : HasStateHistory n.mutator.past.first n.mutator.past.events f.observer.past.events) (adds : AddsCycle f g e.entry)
     (knows : (i : ℕ) → i < slots → carries f.observer.past.state i ≡ true → known g.observer i ≡ known_of (listed (stream_of (with_looks s e run) f.observer.past.state i))) where
   -- the mixer's reports are the slots of the last one told
   slots_told : f.reports ≡ (last_report run.reports).slots
-  slots_told = sym order.reports.slots_are ∙ ap (λ (r : Report). r.slots) (last_stored no_report f.writer.events) ∙ ap (λ (rs : List Report). (last_report rs).slots) fast.reports
+  slots_told = sym order.reports.slots_are ∙ ap (λ (r : Report). r.slots) (sym (last_stored f.writer.events no_report)) ∙ ap (λ (rs : List Report). (last_report rs).slots) fast.reports
 
   used_state : state_of (adopted_states f) e.entry.state ≡ state_of run.states e.entry.state
   used_state = sym (same_state s run n f order normal fast history e.entry.state (let st = adds.state in omega (arith, st)))

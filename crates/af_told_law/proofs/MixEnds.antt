@@ -4,7 +4,7 @@ use Rattle.std.proofs.Common.{◌≡◌, ℕ, ◌+◌, Bool, false, if◌then◌
 use Rattle.af_told_law.proofs.Common.{AddsCycle, ClientEvent, CycleEntry, EntrySeen, IsInOrder, MixerState, NormalState, Observes, OutSide, PipeTold, Polls, Report, Run, ServerState, Session, StreamNames, Takes, WriterEvent, has_exit, is_mixed, mixed_pipe, next_report, sum_by-append, taken_by, with_looks, with_mix}
 use Rattle.af_model.specs.declared.newest.WriterEvent.TheVariants as writes
 use Rattle.af_judge.proofs.QueueSteps.{ones_more, twos_stay}
-use Rattle.af_told_law.specs.MixLaws.{PipeTells}
+use Rattle.af_told_law.proofs.MixPipe.{PipeTells}
 use Rattle.af_told_law.specs.Tells.{IsFresh, TellsFast, TellsNormal, TellsShared, marked_poll, reports_stored}
 
 -- one report more was stored

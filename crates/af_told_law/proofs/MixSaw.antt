@@ -1,10 +1,13 @@
 -- A mix by the state that the mixer polled, and the frames that each slot took of it, as the run tells of its entry.
 use Rattle.std.proofs.Common.{◌≡◌, ◌≢◌, ⊎_elim, ℕ, ◌<◌, true, true≢false, length, Some, sym, ap, ◌∙◌, arith}
-use Rattle.af_told_law.proofs.Common.{AddsCycle, AreTogether, CycleEntry, FastState, Links, MixerState, Mixes, SessionState, adopted_states, cases_eq, cold_done, cycle_of, found, is_mixed, no_state, state_of}
+use Rattle.af_told_law.proofs.Common.{AddsCycle, AreTogether, CycleEntry, EntrySeen, FastState, Links, MixerState, Mixes, SessionState, adopted_states, cases_eq, cold_done, cycle_of, entry_slot, found, frames_taken, is_mixed, no_state, slot_frames, slots, state_of}
 use Rattle.af_told_law.specs.Leads.{LeadAway}
 use Rattle.af_told_law.specs.MixLaws.{entry_told}
-use Rattle.af_told_law.specs.Tells.{SawTold}
 use Rattle.af_told_law.proofs.EntryFrames.{frames_told}
+
+-- what the looks of a mix from f to g took is what the run tells of the entry
+pub record SawTold (f g : MixerState) (e : EntrySeen) : Type 0 where
+  pub frames : (k : ℕ) → k < slots → frames_taken g.log.frames (entry_slot e.entry k) ≡ slot_frames e k
 
 module _ (links : Links) (x : SessionState) (g : MixerState) (together : AreTogether links x) (after : AreTogether links (record x { fast = g })) (lead : LeadAway x.fast.observer.past.state x.normal.tracks) (entry : CycleEntry) (adds : AddsCycle x.fast g entry) (mixed : is_mixed entry.cycle ≡ true) where
   abbrev state : FastState

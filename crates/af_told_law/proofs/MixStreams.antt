@@ -1,18 +1,20 @@
 -- What a mix leaves of a stream is told by the run's mix: if each front that its proxy saw is its own, what is told is what it did, and else each front by which it answers so leaves the same.
-use Rattle.std.proofs.Common.{◌≡◌, ℕ, zero, suc, ◌+◌, ◌<◌, ◌==◌, ◌&&◌, not, nat_lt, Bool, true, false, true≢false, if◌then◌else◌, find, fold, is_some, map, List, [], ◌∷◌, ◌++◌, length, Option, Some, None, refl, sym, ap, ◌∙◌, subst, arith, append_assoc, append-nil}
-use Rattle.af_told_law.proofs.Common.{AreTogether, BlockTold, EntrySeen, FastState, Links, LooksBy, MixerState, Moment, NormalState, Observes, ServerEvent, ServerState, Session, SessionState, SlotPlayed, StartsWith, StreamNames, Takes, TrackTold, at, by_server, carries, cycle_events, cycle_frames, entry_slot, front_of, hand_of, is_home, is_mixed, is_shown, is_slot_of, item_at, mixed_track, none-some, observed, or_else, packed_word, played, range_end, range_with_len, server_of, shown_if, slot_below, slot_for, slot_number, slot_of, slots, stream_at, track_at}
+use Rattle.std.proofs.Common.{◌≡◌, ℕ, zero, suc, ◌+◌, ◌<◌, ◌==◌, ◌&&◌, not, nat_lt, Bool, true, false, true≢false, if◌then◌else◌, find, is_some, map, List, [], ◌∷◌, ◌++◌, length, Option, Some, None, refl, sym, ap, ◌∙◌, subst, arith, append-nil}
+use Rattle.af_told_law.proofs.Common.{AreTogether, BlockTold, EntrySeen, FastState, Links, LooksBy, MixerState, NormalState, Observes, ServerEvent, ServerState, Session, SessionState, SlotPlayed, StartsWith, StreamNames, Takes, TrackTold, at, carries, cycle_events, cycle_frames, entry_slot, front_of, is_home, is_mixed, is_shown, is_slot_of, item_at, mixed_track, none-some, observed, or_else, packed_word, played, range_end, range_with_len, shown_if, slot_below, slot_for, slot_number, slot_of, slots, stream_at, track_at}
 use Rattle.af_told_law.specs.Leads.{LeadAway}
 use Rattle.af_runs.specs.Blocks as told_of
 use Rattle.af_runs.specs.Runs.{shows_slot}
 use Rattle.af_runs.specs.Runs as run_of
 use Rattle.af_told_law.specs.Alike.{TellAlike}
-use Rattle.af_told_law.specs.Tells.{SawTold, TellsAway, TellsServer, TellsStream, held_slot, is_coming, is_going, items_given, mutated_by}
+use Rattle.af_told_law.specs.Tells.{TellsAway, TellsServer, TellsStream, held_slot, is_coming, is_going, items_given, mutated_by}
+use Rattle.af_told_law.proofs.MixSaw.{SawTold}
 use Rattle.af_told_law.proofs.KeptAlike.{cycle_told_alike}
 use Rattle.af_told_law.proofs.MixLooks.{front_own, list_grown, list_own, looks_real, real_list}
 use Rattle.af_told_law.proofs.MixSlots.{shape_same}
 use Rattle.af_told_law.proofs.SlotHeld.{found_carries, found_track}
 use Rattle.af_told_law.proofs.TrackMeets.{none_there, there_is}
 use Rattle.af_told_law.specs.Deeds.{DeedTold, SawOwnOf, ServerDone, done_on}
+use Rattle.af_enough_law.proofs.MoreTold.{server-hand, server-server}
 
 abbrev Watching : Type 0
 Watching = Observes ServerState StreamNames
@@ -34,16 +36,6 @@ first_found p x i (suc n) same =
     ap (find p) (range_end 0 n ∙ ap (λ (k : ℕ). range_with_len 0 n ++ k ∷ []) (let z : 0 + n ≡ n = omega arith in z))
     ∙ find_end p (range_with_len 0 n) n
     ∙ (λ j. or_else (first_found p x i n (λ k low. same k (omega (arith, low))) j) (if same n (omega arith) j then Some n else None))
-
--- ## A block after some events of its server
-
-server_more : (told : List Moment) (es : List ServerEvent) → server_of (fold (λ told moment. moment ∷ told) told (map by_server es)) ≡ server_of told ++ es
-server_more told [] = sym (append-nil (server_of told))
-server_more told (e ∷ es) = server_more (by_server e ∷ told) es ∙ append_assoc (server_of told) (e ∷ []) es
-
-hand_still : (told : List Moment) (es : List ServerEvent) → hand_of (fold (λ told moment. moment ∷ told) told (map by_server es)) ≡ hand_of told
-hand_still told [] = refl
-hand_still told (e ∷ es) = hand_still (by_server e ∷ told) es
 
 -- ## The list of a stream's proxy after a mix
 
@@ -148,7 +140,7 @@ module _ (links : Links) (x : SessionState) (g : MixerState) (together : AreToge
       does = cycle_events (cycle_frames s) (told_of.listed b) (entry_slot e.entry k) (front_of (cycle_frames s) (told_of.listed b) (entry_slot e.entry k))
 
       grown : told_of.server_list (after_mix k) ≡ told_of.server_list b ++ does
-      grown = server_more b.told does
+      grown = server-server b.told does
 
       looks : LooksBy x.fast.frames (real_list b deed) (entry_slot e.entry k) one.plays.front
       looks = looks_real x.fast.frames b deed (entry_slot e.entry k) one.old old_told one.new.pass.part.events one.plays
@@ -187,7 +179,7 @@ module _ (links : Links) (x : SessionState) (g : MixerState) (together : AreToge
           waits = (λ none. absurd (none-some k (sym none ∙ held_same i ∙ found)));
           back = (λ none. absurd (none-some k (sym none ∙ held_same i ∙ found)));
         });
-        hand = h.hand ∙ sym (hand_still b.told does);
+        hand = h.hand ∙ sym (server-hand b.told does);
       }
 
       item_list : list_of (at g.observer.items k) deed ≡ one.new.pass.part.events

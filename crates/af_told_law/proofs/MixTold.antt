@@ -5,16 +5,16 @@ use Rattle.af_told_law.specs.Leads.{LeadAway}
 use Rattle.af_runs.specs.Blocks as told_of
 use Rattle.af_judge.proofs.EntryTracks.{mixed_sides}
 use Rattle.af_told_law.proofs.Basics.{commands_stay}
-use Rattle.af_told_law.specs.MixLaws.{PipeTells, MixIsTold, TookCounted, entry_added}
-use Rattle.af_told_law.specs.Tells.{IsFresh, SawTold, Tells, TellsCommands, TellsServer, TellsTrack}
+use Rattle.af_told_law.specs.MixLaws.{MixIsTold, TookCounted, entry_added}
+use Rattle.af_told_law.proofs.MixPipe.{PipeTells, pipe_mixed}
+use Rattle.af_told_law.specs.Tells.{IsFresh, Tells, TellsCommands, TellsServer, TellsTrack}
+use Rattle.af_told_law.proofs.MixSaw.{SawTold, current_is, mix_is, saw_told}
 use Rattle.af_told_law.proofs.MixCounted as counted
 use Rattle.af_told_law.proofs.MixEnds.{fast_mixed, normal_mixed, pipe_still, shared_mixed}
 use Rattle.af_told_law.proofs.MixKnown.{block_known}
 use Rattle.af_told_law.proofs.MixLegal.{FindsTold, entry_legal}
 use Rattle.af_told_law.proofs.KeptAlike.{looks_told}
 use Rattle.af_told_law.proofs.MixLooks.{front_lawful, list_grown, list_own, looks_real, real_list}
-use Rattle.af_told_law.proofs.MixPipe.{pipe_mixed}
-use Rattle.af_told_law.proofs.MixSaw.{current_is, mix_is, saw_told}
 use Rattle.af_told_law.proofs.MixSlots.{found_slot, held_after, inside, order_after, state_same}
 use Rattle.af_told_law.proofs.MixStates.{few_adopted, same_cold, same_state, state_told}
 use Rattle.af_told_law.proofs.MixStays.{stream_stays, track_still}

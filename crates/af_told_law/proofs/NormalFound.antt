@@ -1,28 +1,23 @@
 -- What a legal turn of a session's normal mixer saw is what its run has found.
-use Rattle.std.proofs.Common.{Bool, None, Option, Some, ap, arith, false, if◌then◌else◌, is_some, length, not, refl, slice_get, subst, sym, true, true≢false, ℕ, ◌&&◌, ◌++◌, ◌<◌, ◌∙◌, ◌≡◌}
-use Rattle.af_told_law.proofs.Common.{AreTogether, BlockTold, FastState, GoesOn, Home, IsLegal, LegalTurnBy, Links, Listed, Marks, NormalKept, NormalState, Outside, PartyState, Run, ServerState, Session, SessionState, Setup, TrackKept, Turn, TurnFound, after_ack, carries, in_hand, is_home, is_returning, kept_of, learnt, listed as told_list, listed_at, outside_of, server_begins, setup_of as mixer_setup, slot_number, some_at, stream_at, takes_from, told_at, track_at, track_in, tracks_at, turn_of, welcomed, welcomed_at}
+use Rattle.std.proofs.Common.{Bool, Some, ap, arith, false, if◌then◌else◌, length, not, refl, slice_get, subst, sym, true, ℕ, ◌&&◌, ◌++◌, ◌<◌, ◌∙◌, ◌≡◌}
+use Rattle.af_told_law.proofs.Common.{AreTogether, BlockTold, GoesOn, IsLegal, LegalTurnBy, Links, Listed, Marks, NormalKept, NormalState, Outside, PartyState, Run, ServerState, Session, SessionState, Setup, TrackKept, Turn, TurnFound, after_ack, carries, in_hand, is_home, is_returning, kept_of, learnt, listed as told_list, listed_at, outside_of, server_begins, setup_of as mixer_setup, slot_number, some_at, stays_out, stream_at, takes_from, told_at, track_at, track_in, tracks_at, turn_of, welcomed, welcomed_at}
 use Rattle.af_runs.specs.Sessions.{setup_of}
 use Rattle.af_server.specs.Slot.{listed}
 use Rattle.af_told_law.specs.Comers.{ComersTell}
-use Rattle.af_told_law.specs.Outsides.{AreAlike, FindsBlocks, HeardAlike, IsFound, ListAlike, LooksTold, SawCommands, SawStream, TakeTold}
+use Rattle.af_told_law.proofs.Outsides.{AreAlike, IsFound, ListAlike, LooksTold, SawCommands, SawStream, TakeTold}
 use Rattle.af_told_law.specs.Tells.{Tells, TellsServer}
 use Rattle.af_told_law.proofs.FoundLegal.{found_alike, found_legal}
 use Rattle.af_told_law.proofs.TurnFronts.{commands_told, stream_told}
 use Rattle.af_told_law.specs.Deeds.{Deeds, SawOwnBy, SawOwnOf, TrackDid, commands_by, deeds_turned, done_on, stream_by}
 use Rattle.af_told_law.proofs.MixLooks.{listed_real, own_split, real_list}
-
-there_some : {X : Type 0} (o : Option X) → is_some o ≡ true → (x : X) × (o ≡ Some x)
-there_some None e = absurd (true≢false (sym e))
-there_some (Some x) e = (x, refl)
+use Rattle.af_told_law.specs.NormalLaws.{FindsBlocks, HeardAlike}
+use Rattle.af_engine.proofs.Basics.{some_of}
 
 -- a track that isn't returning, or of which no acknowledgement was seen, stays as it is
 ack_stays : (ack : Bool) (m : NormalKept) (i : ℕ) → (ack && is_returning (track_at m.tracks i).holder) ≡ false → track_at (after_ack ack m).tracks i ≡ track_at m.tracks i
 unfolding welcomed
 ack_stays false m i stays = refl
-ack_stays true m i stays = welcomed_at m.last m.tracks i ∙ stays_out m.last (track_at m.tracks i) stays
-  where
-    stays_out : (last : FastState) (s : TrackKept) → is_returning s.holder ≡ false → welcomed last s ≡ s
-    stays_out last s is = ap (λ (b : Bool). if b && not (carries last (slot_number s)) then record s { holder = Home } else s) is
+ack_stays true m i stays = welcomed_at m.last m.tracks i ∙ stays_out m.last (track_at m.tracks i) (ap (λ (b : Bool). b && not (carries m.last (slot_number (track_at m.tracks i)))) stays)
 
 module _ (links : Links) (s : Session) (run : Run) {d : Deeds} (x : SessionState) (n : NormalState) (o : Outside) (told : Tells s run d x) (before : AreTogether links x) (legal : IsLegal o x.normal n) (runs : (turn_of n.entry).ended ≡ false) (f : TurnFound) (finds : FindsBlocks run f) (report : HeardAlike (after_ack (turn_of n.entry).ack (kept_of x.normal)).tracks o.report f.report)
     (comers : ComersTell run d x.normal (turn_of n.entry) legal.lists.back) where
@@ -57,7 +52,7 @@ module _ (links : Links) (s : Session) (run : Run) {d : Deeds} (x : SessionState
       by_back true is = let here = comers i low is home in (here.0, ap listed_at here.1, here.2)
       by_back false is =
           let was : is_home (track_at m.tracks i).holder ≡ true = sym (ap (λ (t : TrackKept). is_home t.holder) (ack_stays e.ack m i is)) ∙ home in
-          let here = there_some (stream_at x.normal.streams i) (before.normal.tied.proxies.there i low ∙ was) in
+          let here = some_of (stream_at x.normal.streams i) (before.normal.tied.proxies.there i low ∙ was) in
           let client = client_at i low in
           (here.0, ap listed_at here.1, (told.tracks i client.0 client.1).stream.home here.0 here.1)
 

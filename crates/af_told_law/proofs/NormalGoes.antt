@@ -1,9 +1,10 @@
 -- A turn of the normal mixer leaves each stream proxy in the place that it tells.
+use Rattle.af_told_law.specs.Tells.{mutated_by}
 use Rattle.std.proofs.Common.{◌≡◌, ℕ, ◌<◌, ◌==◌, ◌⊎◌, inl, inr, not, Bool, true, false, true≢false, MatchBool, if◌then◌else◌, refl, sym, ap, subst, ◌∙◌, List, [], ◌∷◌, ◌++◌, append-nil, length, Option, Some, None, eq-eqb}
 use Rattle.af_told_law.proofs.Common.{BegunBy, Brings, Clean, Does, Ended, Grows, IsLegal, Links, Mutates, MutatorEvent, NormalState, Outside, ServerState, Stops, StreamNames, Turn, TurnMade, Turned, TurnsBy, WasAcked, answer_of, at, ended_turn, commands_exit, items_of, kept_of, learnt, marked, mutated, mutator_list, setup_of, slots, stream_at, turn_of, word}
 use Rattle.af_model.specs.declared.states.MutatorEvent.TheVariants as mutator
 use Rattle.af_normal.specs.Order.{IsInOrder}
-use Rattle.af_told_law.specs.Places.{StreamsGo, StreamsStay, TurnLeavesStreams, told_by}
+use Rattle.af_told_law.proofs.Places.{StreamsGo, StreamsStay, TurnLeavesStreams}
 use Rattle.af_told_law.proofs.AckPlaces.{came}
 use Rattle.af_told_law.proofs.HandedTurn.{handed, parts, tied, empty}
 use Rattle.af_told_law.proofs.PollTold.{marks_are}
@@ -56,9 +57,9 @@ module _ (links : Links) (o : Outside) (x y : NormalState) (order : IsInOrder li
       returned : (k : ℕ) (t : ServerState) → k < slots → at m.returned k ≡ Some t → (at x.mutator.returned k ≡ Some t) ⊎ (at back k ≡ Some t)
       first : m.past.first ≡ x.mutator.past.first
       still : (m.past.number ≡ x.mutator.past.number) × (m.past.last ≡ x.mutator.past.last) × (m.past.before ≡ x.mutator.past.before)
-      items : (mutated m.past.first m.past.events).items ≡ (told_by x).items
+      items : (mutated m.past.first m.past.events).items ≡ (mutated_by x).items
       marks : x.ended ≡ false → marked back ≡ (if not x.mutator.past.clear then items_of x.mutator.past.before x.mutator.past.last else [])
-      clear : x.ended ≡ false → (m.past.clear ≡ true) × ((told_by x).pushed ≡ x.mutator.past.number → (mutated m.past.first m.past.events).clear ≡ true)
+      clear : x.ended ≡ false → (m.past.clear ≡ true) × ((mutated_by x).pushed ≡ x.mutator.past.number → (mutated m.past.first m.past.events).clear ≡ true)
 
     mutator_h : h.mutator ≡ x.mutator
     mutator_h = ap (λ (w : NormalState). w.mutator) begun.same
@@ -98,7 +99,7 @@ module _ (links : Links) (o : Outside) (x y : NormalState) (order : IsInOrder li
           clear = (λ off. (
             ap (λ (m : Mutates ServerState StreamNames). m.past.clear) acked.1 ∙ eq-eqb (word x.mutator.past.number) (word x.mutator.past.number) refl,
             (λ number. (λ j. (mutated (first_is j) (list j)).clear) ∙ clear_told x.mutator.past.first x.mutator.past.events x.mutator.past.number acked.0 [] [] (kept_of x) Clean true refl
-                (eq-eqb x.mutator.past.number (told_by x).pushed (sym number)) (λ busy. absurd (true≢false (sym busy)))),
+                (eq-eqb x.mutator.past.number (mutated_by x).pushed (sym number)) (λ busy. absurd (true≢false (sym busy)))),
           ));
         }
       where

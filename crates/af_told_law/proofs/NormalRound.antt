@@ -1,11 +1,12 @@
 -- A turn of the normal mixer that hadn't ended, of which it is known what it found and what was shown of it, is a step of the run but for the load of the report, and the queue is known again.
 use Rattle.std.proofs.Common.{Bool, List, Option, Some, [], ap, arith, false, fold, if◌then◌else◌, is_some, length, map, not, refl, slice_get, subst, suc, sym, true, true≢false, zero, ℕ, ◌&&◌, ◌+◌, ◌<◌, ◌∙◌, ◌∷◌, ◌≡◌, ◌≤◌}
-use Rattle.af_told_law.proofs.Common.{AreTogether, HandEvent, HandSide, IsLegal, IsSound, Item, Learnt, LegalTurnBy, Links, Marks, Moment, NormalKept, NormalState, Outside, PartyState, Run, SawAck, Session, SessionState, Setup, TrackTold, Turn, TurnFound, TurnMade, after_edits, after_push, after_takes, answer_of, by_hand, client_of, command_list, cycle_frames, each_at, each_long, hand_events_of, is_pushed, items_of, kept_of, learnt, mutator_list, no_track, number_seen, outside_of, pipe_cells, push_list, setup_of as mixer_setup, sides_of, slice_get_within, stream_list, told_at, track_count, tracks_at, turn_after, turn_of, turned_track, with_turn, server-client as server_client}
+use Rattle.af_told_law.proofs.Common.{AreTogether, HandSide, IsLegal, IsSound, Item, Learnt, LegalTurnBy, Links, Marks, Moment, NormalKept, NormalState, Outside, PartyState, Run, SawAck, Session, SessionState, Setup, TrackTold, Turn, TurnFound, TurnMade, after_edits, after_push, after_takes, answer_of, by_hand, command_list, cycle_frames, each_at, each_long, hand-client, hand_events_of, is_pushed, items_of, kept_of, learnt, mutator_list, no_track, number_seen, outside_of, pipe_cells, push_list, server-client as server_client, setup_of as mixer_setup, sides_of, slice_get_within, stream_list, told_at, track_count, tracks_at, turn_after, turn_of, turned_track, with_turn}
 use Rattle.af_runs.specs.Sessions.{setup_of}
 use Rattle.af_told_law.specs.Between.{StandsBefore}
 use Rattle.af_told_law.specs.NormalLaws.{PartsTold, TurnShown, did_by, track_turned}
-use Rattle.af_told_law.specs.Places.{StreamsGo, StreamsStay}
-use Rattle.af_told_law.specs.QueueTurned.{MutatorGoes, QueueKnown}
+use Rattle.af_told_law.proofs.Places.{StreamsGo, StreamsStay}
+use Rattle.af_told_law.specs.QueueTurned.{QueueKnown}
+use Rattle.af_told_law.proofs.TurnQueue.{MutatorGoes}
 use Rattle.af_told_law.specs.Tells.{Tells, TellsTrack}
 use Rattle.af_told_law.proofs.LegalAlike.{mutator_list_same}
 use Rattle.af_told_law.proofs.NormalFound.{turn_alike}
@@ -16,11 +17,6 @@ use Rattle.af_told_law.proofs.TurnHomes.{normal_legal}
 use Rattle.af_told_law.proofs.TurnTracks.{turned_kept}
 use Rattle.af_told_law.proofs.LoadTold.{track_apart}
 use Rattle.af_told_law.specs.Deeds.{Deeds, SawOwnBy}
-
--- the hand's events are none of the client's
-hand_client : (told : List Moment) (es : List HandEvent) → client_of (fold (λ (sofar : List Moment) (m : Moment). m ∷ sofar) told (map by_hand es)) ≡ client_of told
-hand_client told [] = refl
-hand_client told (e ∷ es) = hand_client (by_hand e ∷ told) es
 
 module _ (s : Session) (run : Run) {d : Deeds} (x : SessionState) (n : NormalState) (links : Links) (o : Outside) (f : TurnFound) (told : Tells s run d x) (before : AreTogether links x) (after : AreTogether links (record x { normal = n })) (legal : IsLegal o x.normal n)
     (made : TurnMade (answer_of (turn_of n.entry)) x.normal n) (seen : TurnShown s run x n o f) (stands : StandsBefore x)
@@ -153,7 +149,7 @@ module _ (s : Session) (run : Run) {d : Deeds} (x : SessionState) (n : NormalSta
   sides_same i = λ j. record {
     file = (told_at run i).file;
     client = (told_at run i).client;
-    stream = record { shape = (told_at run i).stream.shape; events = (server_client (fold (λ (sofar : List Moment) (one : Moment). one ∷ sofar) (told_at run i).stream.told (map by_hand (hand_events_of e i))) (stream_list (setup_of s) p e (tracks_at (setup_of s) (learnt p) run.normal e i) i) ∙ hand_client (told_at run i).stream.told (hand_events_of e i)) j; released = (told_at run i).stream.released };
+    stream = record { shape = (told_at run i).stream.shape; events = (server_client (fold (λ (sofar : List Moment) (one : Moment). one ∷ sofar) (told_at run i).stream.told (map by_hand (hand_events_of e i))) (stream_list (setup_of s) p e (tracks_at (setup_of s) (learnt p) run.normal e i) i) ∙ hand-client (told_at run i).stream.told (hand_events_of e i)) j; released = (told_at run i).stream.released };
     commands = record { shape = (told_at run i).commands.shape; events = server_client (told_at run i).commands.told (command_list (setup_of s) p e (tracks_at (setup_of s) (learnt p) run.normal e i) i) j; released = (told_at run i).commands.released };
   }
 

@@ -1,15 +1,16 @@
 -- After a turn of the normal mixer the run with this turn tells the ends of the queue, the report and the pipe, and both mixers, but for the load of the report, and the queue is known again.
-use Rattle.std.proofs.Common.{Bool, List, Option, Some, [], ap, append-nil, arith, false, if◌then◌else◌, is_some, length, not, refl, slice_get, subst, sym, true, true≢false, ℕ, ◌&&◌, ◌++◌, ◌+◌, ◌<◌, ◌==◌, ◌∙◌, ◌∷◌, ◌≡◌, ◌≤◌}
-use Rattle.af_told_law.proofs.Common.{Busy, Clean, FastState, IsLegal, Item, KeepsMutator, LegalPush, MutatorEvent, NormalKept, NormalState, Outside, Push, Pushed, QueueTold, Run, ServerState, Session, SessionState, Setup, Turn, TurnFound, after_edits, brought_by, cycle_frames, ended_turn, going, initial, is_pushed, items_of, kept_of, learnt, length-append, mutator_does, mutator_list, number_seen, ones, outside_of, pipe_cells, push_list, pushed_states, put_by, setup_of as mixer_setup, state_at, state_of, track_count, turn_after, turn_of, twos, unwrap_or, with_turn}
+use Rattle.std.proofs.Common.{Bool, List, Option, [], ap, append-nil, arith, false, if◌then◌else◌, is_some, length, not, refl, slice_get, subst, sym, true, true≢false, ℕ, ◌&&◌, ◌++◌, ◌+◌, ◌<◌, ◌==◌, ◌∙◌, ◌∷◌, ◌≡◌, ◌≤◌}
+use Rattle.af_told_law.proofs.Common.{Busy, Clean, FastState, IsLegal, Item, KeepsMutator, LegalPush, MutatorEvent, NormalKept, NormalState, Outside, Push, Pushed, QueueTold, Run, ServerState, Session, SessionState, Setup, Turn, TurnFound, after_edits, brought_by, cycle_frames, ended_turn, going, initial, is_pushed, items_of, kept_of, learnt, length-append, mutator_does, mutator_list, number_seen, ones, outside_of, pipe_cells, push_list, pushed_states, put_by, setup_of as mixer_setup, state_at, state_next, track_count, turn_after, turn_of, twos, unwrap_or, with_turn}
 use Rattle.af_model.specs.declared.states.MutatorEvent.TheVariants as mutator
 use Rattle.af_runs.specs.Sessions.{setup_of}
 use Rattle.af_told_law.specs.NormalLaws.{ShowsFront}
-use Rattle.af_told_law.specs.QueueTurned.{MutatorGoes, QueueKnown}
+use Rattle.af_told_law.specs.QueueTurned.{QueueKnown}
+use Rattle.af_told_law.proofs.TurnQueue.{MutatorGoes, known_after, list_told, state_first}
 use Rattle.af_told_law.specs.Tells.{Tells, TellsFast, TellsNormal, TellsShared}
 use Rattle.af_told_law.proofs.NormalSteps.{all_push}
-use Rattle.af_told_law.proofs.TurnQueue.{known_after, list_told, state_first}
-use Rattle.af_told_law.proofs.TurnShared.{pipe_puts, pipe_takes, twos_same}
+use Rattle.af_told_law.proofs.TurnShared.{pipe_puts, pipe_takes}
 use Rattle.af_told_law.specs.Deeds.{Deeds}
+use Rattle.af_judge.proofs.QueueSteps.{twos_stay}
 
 -- ## States pushed
 
@@ -29,13 +30,8 @@ pushed_in m (Pushed number) again sent = by_first (m.pushed == 0)
     by_first false = refl
 
 -- the state of the last number is the last one
-state_next : (frames : ℕ) (states : List FastState) (x : FastState) → state_at frames (states ++ x ∷ []) (length (states ++ x ∷ [])) ≡ x
-state_next frames states x = ap (λ (o : Option FastState). unwrap_or o (initial frames)) (last states)
-  where
-    last : (states : List FastState) → state_of (states ++ x ∷ []) (length (states ++ x ∷ [])) ≡ Some x
-    last [] = refl
-    last (y ∷ []) = refl
-    last (y ∷ w ∷ states) = last (w ∷ states)
+state_last : (frames : ℕ) (states : List FastState) (x : FastState) → state_at frames (states ++ x ∷ []) (length (states ++ x ∷ [])) ≡ x
+state_last frames states x = ap (state_at frames (states ++ x ∷ [])) (length-append states (x ∷ [])) ∙ ap (λ (o : Option FastState). unwrap_or o (initial frames)) (state_next states x)
 
 -- ## The turn
 
@@ -124,7 +120,7 @@ module _ (s : Session) (run : Run) {d : Deeds} (x : SessionState) (n : NormalSta
     none_put over = ap (λ (t : Turn). put_by (setup_of s) t.mixes) (ended_is over)
 
     observer_same : twos after.queue ≡ twos run.queue
-    observer_same = ap (λ (q : QueueTold). twos q) queue_is ∙ twos_same run.queue _
+    observer_same = ap (λ (q : QueueTold). twos q) queue_is ∙ twos_stay run.queue _
 
     pub shared_turned : TellsShared s after unread x.fast
     unfolding with_turn
@@ -150,7 +146,7 @@ module _ (s : Session) (run : Run) {d : Deeds} (x : SessionState) (n : NormalSta
         let long : length after.states ≡ many + 1 = ap (λ (l : List FastState). length l) more ∙ length-append run.states (edits.draft ∷ []) in
         let number = (shown pushes).0 in let was = told.normal.number in (
           omega (arith, long, number, was),
-          draft_is pushes ∙ sym (state_next (cycle_frames s) run.states edits.draft) ∙ ap (λ (l : List FastState). state_at (cycle_frames s) l (length l)) (sym more),
+          draft_is pushes ∙ sym (state_last (cycle_frames s) run.states edits.draft) ∙ ap (λ (l : List FastState). state_at (cycle_frames s) l (length l)) (sym more),
         )
     by_push false none =
         let same : after.states ≡ run.states = states_are ∙ ap (λ (b : Bool). run.states ++ (if b then edits.draft ∷ [] else [])) none ∙ append-nil run.states in

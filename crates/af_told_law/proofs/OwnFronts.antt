@@ -1,8 +1,9 @@
 -- A look that saw its server's own front saw the front that its answer tells.
-use Rattle.std.proofs.Common.{◌≡◌, ℕ, ◌+◌, ◌^◌, ◌==◌, ◌&&◌, ◌||◌, not, min, nat_lt, Bool, true, false, true≢false, if◌then◌else◌, is_some, Option, Some, None, List, [], ◌∷◌, ◌++◌, refl, sym, ap, ◌∙◌, subst, eqb-true, arith}
-use Rattle.af_told_law.proofs.Common.{AllSeeOwn, Listed, LooksBy, MatchOption, Seen, ServerEvent, Shape, SlotEntry, events_behind_look, ahead, behind, both, cycle_events, dropped_by, eqb-false, flush_position, flushed_front, front_by_answer, front_of, is_noticed, is_own_inside, kept, lawful_front, leaves_open, look_at, look_events, not_true, own_front, past_front, wrapped}
+use Rattle.std.proofs.Common.{◌≡◌, ℕ, ◌+◌, ◌^◌, ◌==◌, ◌&&◌, ◌||◌, not, min, nat_lt, Bool, true, false, true≢false, if◌then◌else◌, is_some, Option, Some, None, List, [], ◌∷◌, ◌++◌, refl, sym, ap, ◌∙◌, arith}
+use Rattle.af_told_law.proofs.Common.{AllSeeOwn, Listed, LooksBy, MatchOption, Seen, ServerEvent, Shape, SlotEntry, events_behind_look, ahead, behind, both, cycle_events, dropped_by, eqb-false, flush_position, flushed_front, front_by_answer, front_of, is_own_inside, kept, lawful_front, leaves_open, look_at, look_events, not_true, own_front, past_front, wrapped}
 use Rattle.af_base.specs.declared.event.ServerEvent.TheVariants as server
 use Rattle.af_base.specs.declared.seen.Seen.TheVariants as seen
+use Rattle.af_told_law.proofs.FrontLeaves.{by_answer}
 
 back_to : (f p : ℕ) → f ≡ wrapped f → behind p (ahead f p) ≡ f
 back_to f p word = (let b : behind p (ahead f p) ≡ wrapped f = omega arith in b) ∙ sym word
@@ -10,34 +11,6 @@ back_to f p word = (let b : behind p (ahead f p) ≡ wrapped f = omega arith in 
 module _ (k : Shape) (old asked : ℕ) (slot : SlotEntry) (f : ℕ) (word : f ≡ wrapped f) (answers : slot.seen ≡ look_at k old asked slot.flush slot.rear f) where
   abbrev at : ℕ
   at = flush_position k.wrap slot.flush slot.rear
-
-  -- P holds of the answer if it holds of each answer that the look may give
-  by_answer : (P : Seen → Type 0) → (is_noticed k (not (slot.flush == old)) slot.rear f ≡ true → P (seen.Flushed (dropped_by k.wrap slot.flush slot.rear f)))
-      → (nat_lt k.frames (ahead f slot.rear) ≡ true → P (seen.Shut f slot.rear))
-      → (nat_lt k.frames (ahead f slot.rear) ≡ false → slot.rear ≡ f → P seen.Empty)
-      → (nat_lt k.frames (ahead f slot.rear) ≡ false → P (seen.Frames (min asked (ahead f slot.rear)))) → P slot.seen
-  by_answer P flushed shut empty frames = by_case (is_noticed k (not (slot.flush == old)) slot.rear f) (nat_lt k.frames (ahead f slot.rear)) (slot.rear == f) refl refl refl
-    where
-      by_case : (n o e : Bool) → is_noticed k (not (slot.flush == old)) slot.rear f ≡ n → nat_lt k.frames (ahead f slot.rear) ≡ o → (slot.rear == f) ≡ e → P slot.seen
-      by_case true o e noticed is_out is_same =
-          let is : look_at k old asked slot.flush slot.rear f ≡ seen.Flushed (dropped_by k.wrap slot.flush slot.rear f) =
-          ap (λ (b : Bool). if b then seen.Flushed (dropped_by k.wrap slot.flush slot.rear f) else if nat_lt k.frames (ahead f slot.rear) then seen.Shut f slot.rear else if slot.rear == f then seen.Empty else seen.Frames (min asked (ahead f slot.rear))) noticed in
-          subst P (sym (answers ∙ is)) (flushed noticed)
-      by_case false true e noticed is_out is_same = subst P (sym (answers ∙ open_is true e noticed is_out is_same)) (shut is_out)
-        where
-          open_is : (out same : Bool) → is_noticed k (not (slot.flush == old)) slot.rear f ≡ false → nat_lt k.frames (ahead f slot.rear) ≡ out → (slot.rear == f) ≡ same
-              → look_at k old asked slot.flush slot.rear f ≡ (if out then seen.Shut f slot.rear else if same then seen.Empty else seen.Frames (min asked (ahead f slot.rear)))
-          open_is out same n o e =
-              ap (λ (b : Bool). if b then seen.Flushed (dropped_by k.wrap slot.flush slot.rear f) else if nat_lt k.frames (ahead f slot.rear) then seen.Shut f slot.rear else if slot.rear == f then seen.Empty else seen.Frames (min asked (ahead f slot.rear))) n
-              ∙ (λ j. if o j then seen.Shut f slot.rear else if e j then seen.Empty else seen.Frames (min asked (ahead f slot.rear)))
-      by_case false false true noticed is_out is_same =
-          subst P (sym (answers
-          ∙ ap (λ (b : Bool). if b then seen.Flushed (dropped_by k.wrap slot.flush slot.rear f) else if nat_lt k.frames (ahead f slot.rear) then seen.Shut f slot.rear else if slot.rear == f then seen.Empty else seen.Frames (min asked (ahead f slot.rear))) noticed
-          ∙ (λ j. if is_out j then seen.Shut f slot.rear else if is_same j then seen.Empty else seen.Frames (min asked (ahead f slot.rear))))) (empty is_out (eqb-true slot.rear f is_same))
-      by_case false false false noticed is_out is_same =
-          subst P (sym (answers
-          ∙ ap (λ (b : Bool). if b then seen.Flushed (dropped_by k.wrap slot.flush slot.rear f) else if nat_lt k.frames (ahead f slot.rear) then seen.Shut f slot.rear else if slot.rear == f then seen.Empty else seen.Frames (min asked (ahead f slot.rear))) noticed
-          ∙ (λ j. if is_out j then seen.Shut f slot.rear else if is_same j then seen.Empty else seen.Frames (min asked (ahead f slot.rear))))) (frames is_out)
 
   -- a flush tells the front, unless it drops nothing by a position
   flush_tells : (not (k.wrap == 0) && (dropped_by k.wrap slot.flush slot.rear f == 0)) ≡ false → flushed_front k.wrap slot.flush slot.rear (dropped_by k.wrap slot.flush slot.rear f) ≡ f
@@ -61,19 +34,19 @@ module _ (k : Shape) (old asked : ℕ) (slot : SlotEntry) (f : ℕ) (word : f �
 
   -- an answer that doesn't leave the front open tells it
   pub front_tells : leaves_open k asked slot.seen ≡ false → front_by_answer k slot ≡ f
-  front_tells = by_answer (λ (s : Seen). leaves_open k asked s ≡ false → front_by_answer k (record slot { seen = s }) ≡ f)
+  front_tells = by_answer k old asked slot f answers (λ (s : Seen). leaves_open k asked s ≡ false → front_by_answer k (record slot { seen = s }) ≡ f)
       (λ noticed closed. flush_tells closed)
-      (λ out closed. refl)
-      (λ inside same closed. same)
-      (λ inside closed. ap (behind slot.rear) (let ne = eqb-false (min asked (ahead f slot.rear)) asked closed in let m : min asked (ahead f slot.rear) ≡ ahead f slot.rear = omega (arith, ne) in m) ∙ back_to f slot.rear word)
+      (λ off out closed. refl)
+      (λ off inside same closed. same)
+      (λ off inside closed. ap (behind slot.rear) (let ne = eqb-false (min asked (ahead f slot.rear)) asked closed in let m : min asked (ahead f slot.rear) ≡ ahead f slot.rear = omega (arith, ne) in m) ∙ back_to f slot.rear word)
 
   -- if an answer leaves the front open, the front lies in the block
   pub open_inside : leaves_open k asked slot.seen ≡ true → nat_lt k.frames (ahead f slot.rear) ≡ false
-  open_inside = by_answer (λ (s : Seen). leaves_open k asked s ≡ true → nat_lt k.frames (ahead f slot.rear) ≡ false)
+  open_inside = by_answer k old asked slot f answers (λ (s : Seen). leaves_open k asked s ≡ true → nat_lt k.frames (ahead f slot.rear) ≡ false)
       (λ noticed opens. fits (k.wrap == 0) (nat_lt k.frames (ahead f slot.rear)) (both (not (slot.flush == old)) _ noticed).1 (both (not (k.wrap == 0)) _ opens).0)
-      (λ out opens. absurd (true≢false (sym opens)))
-      (λ inside same opens. inside)
-      (λ inside opens. inside)
+      (λ off out opens. absurd (true≢false (sym opens)))
+      (λ off inside same opens. inside)
+      (λ off inside opens. inside)
     where
       fits : (wrapless out : Bool) → (wrapless || not out) ≡ true → not wrapless ≡ true → out ≡ false
       fits true out a b = absurd (true≢false (sym b))

@@ -5,7 +5,7 @@ use Rattle.af_runs.specs.Sessions.{setup_of}
 use Rattle.af_told_law.specs.Between.{StandsBefore}
 use Rattle.af_told_law.specs.Comers.{ComersTell}
 use Rattle.af_told_law.specs.NormalLaws.{PartsAreTold, PartsTold, TurnShown, did_by, track_turned}
-use Rattle.af_told_law.specs.Places.{StreamsGo, StreamsStay}
+use Rattle.af_told_law.proofs.Places.{StreamsGo, StreamsStay}
 use Rattle.af_told_law.specs.QueueTurned.{QueueKnown}
 use Rattle.af_told_law.specs.Tells.{Tells, TellsCommands, TellsStream}
 use Rattle.af_told_law.proofs.ComersBack.{comers_legal}

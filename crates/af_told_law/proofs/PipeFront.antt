@@ -12,14 +12,7 @@ seen_after : (taken : ℕ) (es more : List ServerEvent) → SeesTaken taken (es 
 seen_after taken [] more s = subst (λ (n : ℕ). SeesTaken n more) (let z : taken ≡ taken + 0 = omega arith in z) s
 seen_after taken (server.Take count ∷ es) more s = subst (λ (n : ℕ). SeesTaken n more) (let z : (taken + count) + frames_taken es ≡ taken + (count + frames_taken es) = omega arith in z) (seen_after (taken + count) es more s)
 seen_after taken (server.SawFront front ∷ es) more s = subst (λ (n : ℕ). SeesTaken n more) (let z : taken + frames_taken es ≡ taken + (0 + frames_taken es) = omega arith in z) (seen_after taken es more s.1)
-seen_after taken (server.SawRear rear ∷ es) more s = subst (λ (n : ℕ). SeesTaken n more) (let z : taken + frames_taken es ≡ taken + (0 + frames_taken es) = omega arith in z) (seen_after taken es more s)
-seen_after taken (server.SawGain word ∷ es) more s = subst (λ (n : ℕ). SeesTaken n more) (let z : taken + frames_taken es ≡ taken + (0 + frames_taken es) = omega arith in z) (seen_after taken es more s)
-seen_after taken (server.SawFlush flush ∷ es) more s = subst (λ (n : ℕ). SeesTaken n more) (let z : taken + frames_taken es ≡ taken + (0 + frames_taken es) = omega arith in z) (seen_after taken es more s)
-seen_after taken (server.Drop to ∷ es) more s = subst (λ (n : ℕ). SeesTaken n more) (let z : taken + frames_taken es ≡ taken + (0 + frames_taken es) = omega arith in z) (seen_after taken es more s)
-seen_after taken (server.Tally missing ∷ es) more s = subst (λ (n : ℕ). SeesTaken n more) (let z : taken + frames_taken es ≡ taken + (0 + frames_taken es) = omega arith in z) (seen_after taken es more s)
-seen_after taken (server.SetFlags bits ∷ es) more s = subst (λ (n : ℕ). SeesTaken n more) (let z : taken + frames_taken es ≡ taken + (0 + frames_taken es) = omega arith in z) (seen_after taken es more s)
-seen_after taken (server.SetStatus word ∷ es) more s = subst (λ (n : ℕ). SeesTaken n more) (let z : taken + frames_taken es ≡ taken + (0 + frames_taken es) = omega arith in z) (seen_after taken es more s)
-seen_after taken (server.Learn count ∷ es) more s = subst (λ (n : ℕ). SeesTaken n more) (let z : taken + frames_taken es ≡ taken + (0 + frames_taken es) = omega arith in z) (seen_after taken es more s)
+seen_after taken (_ ∷ es) more s = subst (λ (n : ℕ). SeesTaken n more) (let z : taken + frames_taken es ≡ taken + (0 + frames_taken es) = omega arith in z) (seen_after taken es more s)
 
 -- the front that the look of a mix saw at the pipe
 pub front_taken : (f g : MixerState) (slot : SlotEntry) → TookCounted f → SeesTaken 0 g.pipe.pass.part.events → (submix : SubmixSlot f.frames f.pipe.pass.part.events g.pipe.pass.part.events slot) → submix.front ≡ wrapped (length f.pipe.pass.part.frames)

@@ -4,10 +4,15 @@ use Rattle.af_told_law.proofs.Common.{Adopts, AreOf, AreTogether, BlockTold, Fas
 use Rattle.af_told_law.specs.Leads.{LeadAway}
 use Rattle.af_model.specs.declared.states.ObserverEvent.TheVariants as observer
 use Rattle.af_told_law.proofs.Basics.{item_within}
-use Rattle.af_told_law.specs.Tells.{FindsLast, Tells, TellsAway, TellsServer, TellsStream, is_coming, is_going, items_given, items_sent, marked_poll, mutated_by, none_comes}
+use Rattle.af_told_law.specs.Tells.{Tells, TellsAway, TellsServer, TellsStream, is_coming, is_going, items_given, items_sent, marked_poll, mutated_by, none_comes}
 use Rattle.af_told_law.proofs.PollTold.{marks_are, poll_told, stream_still}
 use Rattle.af_told_law.proofs.SlotHeld.{found_carries, found_track, none_carries}
 use Rattle.af_told_law.specs.Deeds.{Deeds, ServerDone, done_on}
+
+-- the poll that led from f to g found the last state that was pushed: a new one is that, with the items that went with it, and the mutator hasn't seen it acknowledged
+pub record FindsLast (m : NormalState) (f g : MixerState) : Type 0 where
+  pub number : g.observer.past.number ≡ m.mutator.past.number
+  pub new : (x : FastState) (came back : List (Option ServerState)) → g.observer.past ≡ acknowledged back (took x came f.observer.past) → (x ≡ m.mutator.past.last) × (came ≡ items_sent m) × ((mutated_by m).clear ≡ false)
 
 abbrev Watching : Type 0
 Watching = Observes ServerState StreamNames

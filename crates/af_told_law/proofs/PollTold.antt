@@ -1,10 +1,10 @@
 -- After a poll that found the last state pushed the run with that poll tells the session.
-use Rattle.std.proofs.Common.{◌≡◌, ℕ, suc, ◌+◌, ◌<◌, ◌&&◌, not, nat_le, nat_lt, Bool, true, false, true≢false, if◌then◌else◌, is_some, map, List, [], ◌∷◌, ◌++◌, length, slice_get, Option, Some, None, refl, sym, ap, ◌∙◌, arith, append-nil}
-use Rattle.af_told_law.proofs.Common.{AreOf, BlockTold, FastState, Item, MixerState, MutatorEvent, NormalState, ObserverEvent, ObserverPoint, Observes, PartyState, Run, ServerEvent, ServerState, Session, SessionState, StreamNames, at, carries, cycle_frames, fold-append, has, item_at, items_of, le-leb, marked, observed, observer_does, observer_next, observer_start, ones, ones_append, option_map, poll_events, range_with_len, sees_same, slot_for, slot_number, slots, state_at, told_at, track_at, twos, with_poll}
+use Rattle.std.proofs.Common.{◌≡◌, ℕ, suc, ◌+◌, ◌<◌, ◌&&◌, not, nat_le, nat_lt, Bool, true, false, true≢false, if◌then◌else◌, is_some, map, List, [], ◌∷◌, ◌++◌, length, slice_get, Option, Some, None, refl, sym, ap, ◌∙◌, arith}
+use Rattle.af_told_law.proofs.Common.{AreOf, BlockTold, FastState, Item, MixerState, NormalState, ObserverEvent, ObserverPoint, Observes, PartyState, Run, ServerEvent, ServerState, Session, SessionState, StreamNames, at, carries, cycle_frames, fold-append, has, item_at, items_of, le-leb, marked, observed, observer_does, observer_next, observer_start, ones, option_map, poll_events, range_with_len, sees_same, slot_for, slot_number, slots, state_at, told_at, track_at, twos, with_poll}
 use Rattle.af_model.specs.declared.states.ObserverEvent.TheVariants as observer
 use Rattle.af_told_law.specs.Tells.{Tells, TellsAway, TellsStream, TellsTrack, held_slot, is_coming, is_going, items_given, marked_poll, mutated_by, none_comes, reports_stored}
-use Rattle.af_told_law.proofs.SharedMeets.{of_two, ones_two, twos_append, twos_two}
 use Rattle.af_told_law.specs.Deeds.{Deeds, ServerDone, done_on}
+use Rattle.af_judge.proofs.QueueSteps.{ones_stay, twos_more}
 
 -- ## Marks
 
@@ -44,10 +44,10 @@ module _ (s : Session) (run : Run) {d : Deeds} (x : SessionState) (g : MixerStat
   current_is = ap (λ (b : Bool). if b then found else run.current) (le-leb found (length run.states) (let n = h.normal.number in omega (arith, n, last)))
 
   ones_are : ones (observer_does more run.queue) ≡ ones run.queue
-  ones_are = ones_append run.queue (map (of_two (MutatorEvent Item)) more) ∙ ap (λ (l : List (MutatorEvent Item)). ones run.queue ++ l) (ones_two (MutatorEvent Item) more) ∙ append-nil (ones run.queue)
+  ones_are = ones_stay run.queue more
 
   twos_are : twos (observer_does more run.queue) ≡ twos run.queue ++ more
-  twos_are = twos_append run.queue (map (of_two (MutatorEvent Item)) more) ∙ ap (λ (l : List (ObserverEvent Item)). twos run.queue ++ l) (twos_two (MutatorEvent Item) more)
+  twos_are = twos_more run.queue more
 
   pub poll_told : Tells s (with_poll s found run) d (record x { fast = g })
   unfolding with_poll

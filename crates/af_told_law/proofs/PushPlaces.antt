@@ -1,6 +1,6 @@
 -- Where a push leaves the items, and what it leaves of the pushes.
-use Rattle.std.proofs.Common.{◌≡◌, ℕ, zero, suc, ◌+◌, ◌<◌, ◌&&◌, ◌⊎◌, inl, inr, Bool, true, false, true≢false, is_some, if◌then◌else◌, refl, sym, ap, subst, ◌∙◌, List, [], ◌∷◌, ◌++◌, append_assoc, append-nil, replicate, Option, Some, None, eq-eqb, ne_eqb, arith}
-use Rattle.af_told_law.proofs.Common.{AreOf, Busy, Clean, Mutates, NormalState, Push, Pushed, SeesIt, ServerState, StreamNames, WasPushed, at, carries, in_queue, is_pushed, kept_of, push_list, pushes, saw, shows, slots}
+use Rattle.std.proofs.Common.{◌≡◌, ℕ, zero, suc, ◌+◌, ◌<◌, ◌⊎◌, inl, inr, Bool, true, false, true≢false, is_some, if◌then◌else◌, refl, sym, ap, subst, ◌∙◌, List, [], ◌∷◌, ◌++◌, append_assoc, append-nil, replicate, Option, Some, None, eq-eqb, ne_eqb, arith}
+use Rattle.af_told_law.proofs.Common.{AreOf, Busy, Clean, Mutates, NormalState, Push, Pushed, SeesIt, ServerState, StreamNames, WasPushed, at, both_first, carries, in_queue, is_pushed, kept_of, push_list, pushes, saw, shows, slots}
 use Rattle.af_model.specs.declared.states.MutatorEvent.TheVariants as mutator
 use Rattle.af_normal.specs.Mutating.{Pushes}
 use Rattle.af_told_law.proofs.AckPlaces.{came}
@@ -39,13 +39,9 @@ module _ (push : Push) (x y : NormalState) (w : Pushes push x y) where
   brings : (m : Mutates ServerState StreamNames) (seen : SeesIt x.mutator m) (k : ℕ) → k < slots → is_some (at seen.0 k) ≡ true → (x.mutator.past.clear ≡ false) × (carries x.mutator.past.before k ≡ true)
   brings m seen k low some = by_clear x.mutator.past.clear refl
     where
-      first : (a b : Bool) → true ≡ (a && b) → a ≡ true
-      first true b e = refl
-      first false b e = absurd (true≢false e)
-
       by_clear : (b : Bool) → x.mutator.past.clear ≡ b → (x.mutator.past.clear ≡ false) × (carries x.mutator.past.before k ≡ true)
       by_clear true e = absurd (true≢false (sym some ∙ ap (λ (items : List (Option ServerState)). is_some (at items k)) (seen.3.0 e)))
-      by_clear false e = (e, first (carries x.mutator.past.before k) _ (sym some ∙ (seen.3.1 e).1 k low))
+      by_clear false e = (e, both_first (carries x.mutator.past.before k) _ (sym ((seen.3.1 e).1 k low) ∙ some))
 
   or_there : (k : ℕ) (t : ServerState) (items : List (Option ServerState)) → (at items k ≡ Some t) ⊎ ((at x.mutator.returned k ≡ Some t) × (at items k ≡ None)) → (at items k ≡ Some t) ⊎ (at x.mutator.returned k ≡ Some t)
   or_there k t items (inl e) = inl e

@@ -1,9 +1,8 @@
 -- What a look at the acknowledgement brings, by the history of the queue, wherever it stands: the items given back with the last acknowledgement, if it saw that.
 use Rattle.std.proofs.Common.{◌≡◌, ◌≢◌, ⊎_elim, ℕ, ◌+◌, ◌≤◌, ◌<◌, ◌==◌, ◌&&◌, not, Bool, true, false, true≢false, if◌then◌else◌, List, [], ◌∷◌, ◌++◌, length, length-append, get_or, Option, refl, sym, ap, subst, ◌∙◌, arith}
-use Rattle.af_told_law.proofs.Common.{AreOf, Event, FastState, HasStateHistory, Legal, MutatorEvent, MutatorPoint, ObserverEvent, ObserverPoint, QueuePoint, SawAck, ServerState, point_after, after_ones, after_twos, cases_eq, eq-eqb, eqb-true, legal, legal_at, mutated, ne_eqb, next, observed, one, ones, start_of_queue, two}
+use Rattle.af_told_law.proofs.Common.{Ack, AreOf, Event, FastState, HasStateHistory, Legal, MutatorEvent, MutatorPoint, ObserverEvent, ObserverPoint, QueuePoint, SawAck, SawNext, ServerState, after_ones, after_twos, cases_eq, eq-eqb, eqb-true, legal, legal_at, mutated, ne_eqb, next, observed, one, ones, point_after, start_of_queue, two}
 use Rattle.af_model.specs.declared.states.MutatorEvent.TheVariants.{Push}
 use Rattle.af_model.specs.declared.states.MutatorEvent.TheVariants as mutator
-use Rattle.af_model.specs.declared.states.ObserverEvent.TheVariants.{Ack, SawNext}
 use Rattle.af_model.specs.declared.states.ObserverEvent.TheVariants as observer
 
 abbrev Events : Type 0
@@ -59,7 +58,7 @@ due_next k acked pushed false same le is ne = (
   omega (arith, is),
 )
 
-sane_next : (p : Point) (e : Event (MutatorEvent ServerState) (ObserverEvent ServerState)) → IsSane p → legal p e → IsSane (next p e)
+pub sane_next : (p : Point) (e : Event (MutatorEvent ServerState) (ObserverEvent ServerState)) → IsSane p → legal p e → IsSane (next p e)
 sane_next p (one (Push k x items)) h l = record {
   low = (let a = h.low in let b = l.0 in omega arith);
   level = (let a = l.1 in let b = l.0 in omega arith);
@@ -100,15 +99,15 @@ sane_after : (p : Point) (es : Events) → IsSane p → Legal legal next p es �
 sane_after p [] h l = h
 sane_after p (e ∷ es) h l = sane_after (next p e) es (sane_next p e h l.0) l.1
 
-sane_start : (first : FastState) → IsSane (start_of_queue first)
+pub sane_start : (first : FastState) → IsSane (start_of_queue first)
 sane_start first = record { low = omega arith; level = omega arith; due = (λ ne. absurd (ne refl)); seen = (λ c. refl); sent = (λ some. absurd (omega (arith, some))); given = (λ off. absurd (true≢false off)) }
 
 -- ## Acknowledgements
 
 -- acknowledgements are never taken back, and each gives other items
-record Grown (p q : Point) : Type 0 where
-  few : p.observer.acked ≤ q.observer.acked
-  same : q.observer.acked ≡ p.observer.acked → q.observer.given ≡ p.observer.given
+pub record Grown (p q : Point) : Type 0 where
+  pub few : p.observer.acked ≤ q.observer.acked
+  pub same : q.observer.acked ≡ p.observer.acked → q.observer.given ≡ p.observer.given
 
 grown_next : (p : Point) (e : Event (MutatorEvent ServerState) (ObserverEvent ServerState)) → IsSane p → legal p e → Grown p (next p e)
 grown_next p (one e) h l = record { few = omega arith; same = (λ s. refl) }
@@ -118,7 +117,7 @@ grown_next p (two (Ack k items)) h l =
     record { few = (let b = l.0 in let c = d.0 in omega arith); same = (λ s. absurd (let b = l.0 in let c = d.0 in omega (arith, b, c, s))) }
 grown_next p (two (observer.Learn c)) h l = record { few = omega arith; same = (λ s. refl) }
 
-grown_after : (p : Point) (es : Events) → IsSane p → Legal legal next p es → Grown p (point_after legal next p es)
+pub grown_after : (p : Point) (es : Events) → IsSane p → Legal legal next p es → Grown p (point_after legal next p es)
 grown_after p [] h l = record { few = omega arith; same = (λ s. refl) }
 grown_after p (e ∷ es) h l =
     let one_more = grown_next p e h l.0 in

@@ -52,7 +52,7 @@ module _ (first : FastState) (m : Pushes ServerState StreamNames) (c d : ℕ) (o
     abbrev seen_last : Type 0
     seen_last = (n ≡ (mutated first (m.events ++ mutator.Learn c ∷ [])).pushed) × IfSome x (λ s. (s ≡ (mutated first (m.events ++ mutator.Learn c ∷ [])).last) × (items ≡ (mutated first (m.events ++ mutator.Learn c ∷ [])).items))
 
-    sees_all : seen_last
+    pub sees_all : seen_last
     sees_all =
         let ms : Pushed = m.events ++ mutator.Learn c ∷ [] in
         let more : Pushed = l.more ++ mutator.Learn c ∷ [] in
@@ -82,16 +82,16 @@ module _ (first : FastState) (m : Pushes ServerState StreamNames) (c d : ℕ) (o
       some : HasLearnt m.events o.past.events → o'.past.number ≡ m.number
       some l = number ∙ (sees_all l o.past.number None [] (observer.Learn d ∷ []) (same_list is)).0 ∙ pushed_then
 
-  module _ (x : FastState) (came back items : List (Option ServerState)) (is : o' ≡ record { past = acknowledged back (took x came o.past); current = Some x; previous = o.current; items = items }) where
+  module _ (x : FastState) (came back : List (Option ServerState)) (is : o'.past ≡ acknowledged back (took x came o.past)) where
     new_number : o'.past.number ≡ o.past.number + 1
-    new_number = ap (λ (y : Observes ServerState StreamNames). y.past.number) is
+    new_number = ap (λ (y : Polls ServerState StreamNames). y.number) is
 
     new_state : o'.past.state ≡ x
-    new_state = ap (λ (y : Observes ServerState StreamNames). y.past.state) is
+    new_state = ap (λ (y : Polls ServerState StreamNames). y.state) is
 
-    new_list : o'.past.events ++ observer.Learn d ∷ [] ≡ o.past.events ++ SawNext (o.past.number + 1) (Some x) came ∷ Ack (o.past.number + 1) back ∷ observer.Learn d ∷ []
+    pub new_list : o'.past.events ++ observer.Learn d ∷ [] ≡ o.past.events ++ SawNext (o.past.number + 1) (Some x) came ∷ Ack (o.past.number + 1) back ∷ observer.Learn d ∷ []
     new_list =
-        ap (λ (y : Observes ServerState StreamNames). y.past.events ++ observer.Learn d ∷ []) is
+        ap (λ (y : Polls ServerState StreamNames). y.events ++ observer.Learn d ∷ []) is
         ∙ append_assoc (o.past.events ++ SawNext (o.past.number + 1) (Some x) came ∷ []) (Ack (o.past.number + 1) back ∷ []) (observer.Learn d ∷ [])
         ∙ append_assoc o.past.events (SawNext (o.past.number + 1) (Some x) came ∷ []) (Ack (o.past.number + 1) back ∷ observer.Learn d ∷ [])
 
@@ -111,10 +111,10 @@ module _ (first : FastState) (m : Pushes ServerState StreamNames) (c d : ℕ) (o
   pub finds : (m.number ≡ 0) ⊎ HasLearnt m.events o.past.events → (poll : Poll) (s s' : ℕ) → WasPolled o poll o' s s' → Finds
   finds knows Nothing s s' was = finds_same knows was.1
   finds knows Same s s' was = finds_same knows was.1
-  finds knows (New number) s s' was = finds_new was.1.0 was.1.1.0 was.1.1.1 o'.items was.1.1.2 knows
+  finds knows (New number) s s' was = finds_new was.1.0 was.1.1.0 was.1.1.1 (ap (λ (y : Observes ServerState StreamNames). y.past) was.1.1.2) knows
 
   -- an observer that has polled all finds nothing new
   pub finds_none : o.past.number ≡ m.number → (poll : Poll) (s s' : ℕ) → WasPolled o poll o' s s' → o' ≡ sees_same o
   finds_none caught Nothing s s' was = was.1
   finds_none caught Same s s' was = was.1
-  finds_none caught (New number) s s' was = absurd (let new = new_number was.1.0 was.1.1.0 was.1.1.1 o'.items was.1.1.2 in omega (arith, new, caught, few_polled))
+  finds_none caught (New number) s s' was = absurd (let new = new_number was.1.0 was.1.1.0 was.1.1.1 (ap (λ (y : Observes ServerState StreamNames). y.past) was.1.1.2) in omega (arith, new, caught, few_polled))

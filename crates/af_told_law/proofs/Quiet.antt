@@ -109,43 +109,6 @@ turn_quiet c k m e quiet = by_end e.ended
 pub new_quiet : (c : Setup) → IsQuiet (new_normal c)
 new_quiet c = record { over = (λ exit. no exit); rests = (λ exit. no exit) }
 
--- ## What the edits leave of the pushes
-
--- nothing was pushed
-pub record PushedNone (m t : NormalKept) : Type 0 where
-  pub pushed : t.pushed ≡ m.pushed
-  pub last : t.last ≡ m.last
-
-either_none : (b : Bool) (m x y : NormalKept) → PushedNone m x → PushedNone m y → PushedNone m (if b then x else y)
-either_none true m x y h g = h
-either_none false m x y h g = g
-
-edits_none : (c : Setup) (k : Learnt) (m : NormalKept) (i : ℕ) → PushedNone m (edited_to c k m i)
-unfolding edited let_go lend
-edits_none c k m zero = record { pushed = refl; last = refl }
-edits_none c k m (suc i) =
-    let y : NormalKept = edited_to c k m i in
-    let h : PushedNone m y = edits_none c k m i in
-    either_none (must_leave (track_at y.tracks i)) m (let_go i y) _ (record { pushed = h.pushed; last = h.last })
-    (either_none (must_enter (track_at y.tracks i)) m (lend c i (k.own i) y) y (record { pushed = h.pushed; last = h.last }) h)
-
-acked_none : (ack : Bool) (m : NormalKept) → PushedNone m (after_ack ack m)
-acked_none true m = record { pushed = refl; last = refl }
-acked_none false m = record { pushed = refl; last = refl }
-
-ordered_none : (command : Command) (m x : NormalKept) → PushedNone m x → PushedNone m (ordered command x)
-unfolding ordered
-ordered_none command m x h = either_none (code_of command == code_of x.draft.command) m x _ h (record { pushed = h.pushed; last = h.last })
-
--- the edits of a turn push nothing
-pub mutated_none : (c : Setup) (k : Learnt) (m : NormalKept) (e : Turn) → PushedNone m (after_edits c k e m)
-unfolding mutated
-mutated_none c k m e =
-    let x : NormalKept = after_tracks c k e (after_ack e.ack m) in
-    let a = acked_none e.ack m in
-    let b = edits_none c k x (length x.tracks) in
-    ordered_none _ m (edited_to c k x (length x.tracks)) (record { pushed = b.pushed ∙ a.pushed; last = b.last ∙ a.last })
-
 -- ## Once the Exit was pushed
 
 clean_push : (push : Push) (m : NormalKept) → m.dirty ≡ false → LegalPush m push → push ≡ Clean

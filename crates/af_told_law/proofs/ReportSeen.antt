@@ -1,6 +1,6 @@
 -- A turn of the normal mixer between two rounds loads the last report that was stored.
 use Rattle.std.proofs.Common.{◌≡◌, ⊎_elim, ℕ, suc, ◌+◌, fold, List, [], ◌∷◌, ◌++◌, length, refl, sym, ap, ◌∙◌, append_assoc, arith}
-use Rattle.af_told_law.proofs.Common.{AreTogether, CycleEntry, Links, Load, NormalState, ReaderEvent, Report, ReportTold, Run, Session, SessionState, Store, TrackKept, WriterEvent, last_of, last_report, max, min, most_round_cycles, no_report, one, ones, report_at, report_met, report_of, slot_number, stores, track_at, two, twos}
+use Rattle.af_told_law.proofs.Common.{AreTogether, CycleEntry, Links, Load, NormalState, ReaderEvent, Report, ReportTold, Run, Session, SessionState, Store, TrackKept, WriterEvent, last_of, last_report, max, min, most_round_cycles, no_report, ones, report_at, report_met, report_of, slot_number, stores, track_at, twos}
 use Rattle.af_model.specs.declared.newest.ReaderEvent.TheVariants as reads
 use Rattle.af_model.specs.declared.newest.WriterEvent.TheVariants as writes
 use Rattle.af_model.specs.NewestValue as newest
@@ -8,8 +8,9 @@ use Rattle.af_model.specs.NewestValue.{HasValueHistory}
 use Rattle.af_told_law.specs.QueueTurned.{ReportMet}
 use Rattle.af_told_law.specs.Tells.{Tells, reports_stored}
 use Rattle.af_told_law.proofs.TurnReport.{all_stored, last_told, loads_behind, loads_first}
-use Rattle.af_told_law.specs.Outsides.{HeardAlike}
 use Rattle.af_told_law.specs.Deeds.{Deeds}
+use Rattle.af_told_law.specs.NormalLaws.{HeardAlike}
+use Rattle.af_judge.proofs.QueueSteps.{ones_met, twos_met}
 
 -- ## The reports of a list
 
@@ -18,7 +19,8 @@ stored_long [] = refl
 stored_long (Store y ∷ ws) = ap suc (stored_long ws)
 stored_long (writes.Learn c ∷ ws) = stored_long ws
 
-last_stored : (ws : List (WriterEvent Report)) (first : Report) → fold (λ (last : Report) (report : Report). report) first (reports_stored ws) ≡ last_of first ws
+-- the last report of a list that was stored
+pub last_stored : (ws : List (WriterEvent Report)) (first : Report) → fold (λ (last : Report) (report : Report). report) first (reports_stored ws) ≡ last_of first ws
 last_stored [] first = refl
 last_stored (Store y ∷ ws) first = last_stored ws y
 last_stored (writes.Learn c ∷ ws) first = last_stored ws first
@@ -27,16 +29,6 @@ more_learnt : (ws : List (WriterEvent Report)) (c : ℕ) (first : Report) → (s
 more_learnt [] c first = (refl, refl)
 more_learnt (Store y ∷ ws) c first = let rest = more_learnt ws c y in (ap suc rest.0, rest.1)
 more_learnt (writes.Learn d ∷ ws) c first = more_learnt ws c first
-
-ones_met : (told : ReportTold) (c d : ℕ) → ones (told ++ one (writes.Learn c) ∷ two (reads.Learn d) ∷ []) ≡ ones told ++ writes.Learn c ∷ []
-ones_met [] c d = refl
-ones_met (one a ∷ told) c d = ap (λ (l : List (WriterEvent Report)). a ∷ l) (ones_met told c d)
-ones_met (two b ∷ told) c d = ones_met told c d
-
-twos_met : (told : ReportTold) (c d : ℕ) → twos (told ++ one (writes.Learn c) ∷ two (reads.Learn d) ∷ []) ≡ twos told ++ reads.Learn d ∷ []
-twos_met [] c d = refl
-twos_met (one a ∷ told) c d = twos_met told c d
-twos_met (two b ∷ told) c d = ap (λ (l : List (ReaderEvent Report)). b ∷ l) (twos_met told c d)
 
 module _ (s : Session) (run : Run) {d : Deeds} (x : SessionState) (n : NormalState) (links : Links) (together : AreTogether links x) (told : Tells s run d x) (met_last : ReportMet run) (written read : ℕ)
     (history : HasValueHistory no_report (x.fast.writer.events ++ writes.Learn read ∷ []) (n.reader.events ++ reads.Learn written ∷ []))
@@ -67,8 +59,8 @@ module _ (s : Session) (run : Run) {d : Deeds} (x : SessionState) (n : NormalSta
       behind : (r : ReportTold) × (run.report ≡ report_met r) → Seen
       behind (r, is) =
           let c : ℕ = length (ones r) in
-          let before : x.normal.reader.events ≡ twos r ++ reads.Learn c ∷ [] = told.shared.reader ∙ ap (λ (q : ReportTold). twos q) is ∙ twos_met r (length (twos r)) c in
-          let stored_list : ws ≡ ones r ++ writes.Learn (length (twos r)) ∷ [] = told.shared.writer ∙ ap (λ (q : ReportTold). ones q) is ∙ ones_met r (length (twos r)) c in
+          let before : x.normal.reader.events ≡ twos r ++ reads.Learn c ∷ [] = told.shared.reader ∙ ap (λ (q : ReportTold). twos q) is ∙ twos_met r (writes.Learn (length (twos r))) (reads.Learn c) in
+          let stored_list : ws ≡ ones r ++ writes.Learn (length (twos r)) ∷ [] = told.shared.writer ∙ ap (λ (q : ReportTold). ones q) is ∙ ones_met r (writes.Learn (length (twos r))) (reads.Learn c) in
           let all : twos history.order ≡ twos r ++ reads.Learn c ∷ Load k loaded ∷ reads.Learn written ∷ [] =
           history.of_two ∙ ap (λ (l : List (ReaderEvent Report)). l ++ reads.Learn written ∷ []) (reads_are ∙ ap (λ (l : List (ReaderEvent Report)). l ++ Load k loaded ∷ []) before)
           ∙ append_assoc (twos r ++ reads.Learn c ∷ []) (Load k loaded ∷ []) (reads.Learn written ∷ []) ∙ append_assoc (twos r) (reads.Learn c ∷ []) (Load k loaded ∷ reads.Learn written ∷ []) in

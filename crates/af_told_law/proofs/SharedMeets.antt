@@ -18,18 +18,6 @@ twos_append [] ys = refl
 twos_append (one a ∷ xs) ys = twos_append xs ys
 twos_append {A} {B} (two b ∷ xs) ys = ap (λ (l : List B). b ∷ l) (twos_append xs ys)
 
--- an event of the second party alone
-abbrev pub of_two : (A : Type 0) {B : Type 0} → B → Event A B
-of_two A e = two e
-
-pub twos_two : (A : Type 0) {B : Type 0} (es : List B) → twos (map (of_two A) es) ≡ es
-twos_two A [] = refl
-twos_two A {B} (e ∷ es) = ap (λ (l : List B). e ∷ l) (twos_two A es)
-
-pub ones_two : (A : Type 0) {B : Type 0} (es : List B) → ones (map (of_two A) es) ≡ []
-ones_two A [] = refl
-ones_two A (e ∷ es) = ones_two A es
-
 -- a meeting pushes and stores nothing
 pub pushed_still : (es : List (MutatorEvent ServerState)) (count : ℕ) → pushed_states (es ++ mutator.Learn count ∷ []) ≡ pushed_states es
 pushed_still [] count = refl

@@ -5,7 +5,7 @@ use Rattle.af_audit.proofs.DoneTracks.{IsDone}
 use Rattle.af_runs.specs.Blocks as told_of
 use Rattle.af_runs.specs.Sessions.{setup_of}
 use Rattle.af_told_law.specs.Between.{IsQuiet}
-use Rattle.af_told_law.specs.Places.{StreamsStay}
+use Rattle.af_told_law.proofs.Places.{StreamsStay}
 use Rattle.af_told_law.specs.Tells.{Tells, TellsCommands, TellsServer, TellsStream}
 use Rattle.af_told_law.proofs.ClientTold.{did_same}
 use Rattle.af_told_law.specs.Deeds.{DeedTold, Deeds, ServerDone, TrackDid, commands_by, deeds_turned, done_on, stream_by}

@@ -7,7 +7,7 @@ use Rattle.af_runs.specs.Sessions.{setup_of}
 use Rattle.af_told_law.proofs.Basics.{unpushed, went}
 use Rattle.af_told_law.specs.Between.{StandsBefore}
 use Rattle.af_told_law.specs.Comers.{ComersTell}
-use Rattle.af_told_law.specs.Places.{ComesFrom, IsLentBy, StaysAway, StreamsGo, events_by, slot_in, words_by}
+use Rattle.af_told_law.proofs.Places.{ComesFrom, IsLentBy, StaysAway, StreamsGo, events_by, slot_in, words_by}
 use Rattle.af_told_law.specs.QueueTurned.{QueueKnown}
 use Rattle.af_told_law.specs.Tells.{Tells, TellsAway, TellsCommands, TellsServer, TellsStream, held_slot, is_coming, is_going, items_given, items_sent, none_comes}
 use Rattle.af_told_law.proofs.ComersBack.{comers_legal, home_told}
@@ -16,8 +16,8 @@ use Rattle.af_told_law.proofs.HomeBefore.{enters_before, turned_before}
 use Rattle.af_told_law.proofs.LooksTurned.{again_coming, back_coming, back_same, handed_none, waiting_none}
 use Rattle.af_told_law.proofs.TurnHomes.{turned_home}
 use Rattle.af_told_law.proofs.TurnTracks.{commands_did, stream_did, turned_commands, turned_hand, turned_stream}
-use Rattle.af_told_law.specs.Outsides.{FindsBlocks, HeardAlike}
 use Rattle.af_told_law.specs.Deeds.{Deeds, ServerDone, TrackDid, commands_by, deeds_turned, done_on}
+use Rattle.af_told_law.specs.NormalLaws.{FindsBlocks, HeardAlike}
 
 module _ (links : Links) (s : Session) (run : Run) {deeds : Deeds} (x : SessionState) (n : NormalState) (o : Outside) (told : Tells s run deeds x) (before : AreTogether links x) (after : AreTogether links (record x { normal = n })) (legal : IsLegal o x.normal n)
     (runs : (turn_of n.entry).ended ≡ false) (f : TurnFound) (finds : FindsBlocks run f) (report : HeardAlike (after_ack (turn_of n.entry).ack (kept_of x.normal)).tracks o.report f.report)

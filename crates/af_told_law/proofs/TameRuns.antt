@@ -2,7 +2,8 @@
 use Rattle.std.proofs.Common.{◌≡◌, ℕ, ◌≤◌, Bool, true, false, slice_get, Some, refl, sym, ap, ◌∙◌, subst, arith}
 use Rattle.af_told_law.proofs.Common.{EntrySeen, Marks, PartyState, Run, Session, SessionState, Shape, Track, TrackTold, both_lawful, client_of, cycle_events, entry_slot, front_of, is_lawful, listed, shape_met, slice_get_within, stream_met, told_at, with_mix, with_poll, IsQuietlyKept, met_keeps, mix_keeps, poll_keeps, server-client, hand-client, command_list, stream_list, tracks_at, learnt, hand_events_of, hand_does}
 use Rattle.af_runs.specs.Runs as run_of
-use Rattle.af_told_law.specs.Sizes.{AreSmall, IsSmallRun, IsTrackSmall}
+use Rattle.af_told_law.specs.Sizes.{IsSmallRun, IsTrackSmall}
+use Rattle.af_told_law.proofs.MeetsShow.{AreSmall}
 use Rattle.af_told_law.specs.Marked.{IsMarkedRun, IsTrackMarked}
 use Rattle.af_told_law.specs.Tells.{Tells}
 use Rattle.af_told_law.specs.Deeds.{Deeds}

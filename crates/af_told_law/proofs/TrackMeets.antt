@@ -8,7 +8,15 @@ use Rattle.af_told_law.specs.Tells.{IfThere, Tells, TellsAway, TellsCommands, Te
 use Rattle.af_told_law.proofs.BlockMeets.{all_did, all_hand, all_history, all_server, all_side, did_met, flag_hand, flag_side, meets_history, meets_server, meets_side}
 use Rattle.af_told_law.proofs.SlotHeld.{found_carries, is_held}
 use Rattle.af_runs.specs.Kept.{client_of}
-use Rattle.af_told_law.specs.Deeds.{DeedTold, Deeds, ServerDone, deeds_met, done_on, met_deed}
+use Rattle.af_told_law.specs.Deeds.{DeedTold, Deeds, ServerDone, done_on}
+use Rattle.af_told_law.proofs.Basics.{met_deed}
+
+-- the lists of all servers, once those that take part have met their clients
+abbrev pub deeds_met : Session → Run → Deeds → Deeds
+deeds_met s run d = record {
+  streams = λ i. if takes_part s run i then met_deed (told_at run i).stream (d.streams i) else d.streams i;
+  commands = λ i. met_deed (told_at run i).commands (d.commands i);
+}
 
 -- a proxy that is there and tells the block
 pub there_is : (b : ServerDone) (o : Option ServerState) (t : ServerState) → o ≡ Some t → TellsServer b t → IfThere b o

@@ -1,9 +1,9 @@
 -- By alike outsides a turn of the normal mixer serves and edits its tracks alike.
 use Rattle.std.proofs.Common.{Bool, List, [], ap, arith, false, if◌then◌else◌, inl, inr, is_some, length, min, refl, subst, suc, sym, true, zero, ℕ, ◌&&◌, ◌<◌, ◌∙◌, ◌∷◌, ◌≡◌, ◌≤◌}
-use Rattle.af_told_law.proofs.Common.{CommandLook, FastState, Heard, IsSound, Learnt, Listed, NormalKept, Outside, ServerKept, Setup, Shape, SlotReport, TrackKept, TrackSeen, Turn, acked_len, after_ack, after_edits, after_part, after_push, after_takes, after_tracks, at_set, commanded_by, counts_in, edited, edited_to, flushes_by, get_or-set_other, goes_served, heard, heard_at_home, heard_by, heard_elsewhere, heard_with, is_home, is_reported, known_by, learnt, lend, let_go, must_enter, must_leave, new_track, no_counts, not_yet, noted, plays, ready, seen_at, served, served_len, served_to, settled_at, slice_set, slot_reported, sound_acked, sound_served, track_at, tracks_at, turn_after}
+use Rattle.af_told_law.proofs.Common.{CommandLook, FastState, Heard, IsSound, Learnt, Listed, NormalKept, Outside, ServerKept, Setup, Shape, SlotReport, TrackKept, TrackSeen, Turn, acked_len, after_ack, after_edits, after_part, after_push, after_takes, after_tracks, at_set, both_first, commanded_by, counts_in, edited, edited_to, flushes_by, get_or-set_other, goes_served, heard, heard_at_home, heard_by, heard_elsewhere, heard_with, is_home, is_reported, known_by, learnt, lend, let_go, must_enter, must_leave, new_track, no_counts, not_yet, noted, plays, ready, seen_at, served, served_len, served_to, settled_at, slice_set, slot_reported, sound_acked, sound_served, track_at, tracks_at, turn_after}
 use Rattle.af_life.specs.Edits.{mutated}
 use Rattle.af_life.specs.Obeys.{slot_for}
-use Rattle.af_told_law.specs.Outsides.{AreAlike, LearnAlike, ListAlike, OwnAlike}
+use Rattle.af_told_law.proofs.Outsides.{AreAlike, LearnAlike, ListAlike, OwnAlike}
 
 -- ## What is heard
 
@@ -97,12 +97,8 @@ module _ (c : Setup) (k l : Learnt) where
   unfolding edited
   edited_same i m own = by_home (must_enter (track_at m.tracks i)) refl
     where
-      first : (a b : Bool) → (a && b) ≡ true → a ≡ true
-      first true b e = refl
-      first false b e = e
-
       by_home : (b : Bool) → must_enter (track_at m.tracks i) ≡ b → (if must_leave (track_at m.tracks i) then let_go i m else if b then lend c i (k.own i) m else m) ≡ (if must_leave (track_at m.tracks i) then let_go i m else if b then lend c i (l.own i) m else m)
-      by_home true is = ap (λ (h : Heard). if must_leave (track_at m.tracks i) then let_go i m else lend c i h m) (own (first (is_home (track_at m.tracks i).holder) (is_some (track_at m.tracks i).slot && plays (track_at m.tracks i).life) is))
+      by_home true is = ap (λ (h : Heard). if must_leave (track_at m.tracks i) then let_go i m else lend c i h m) (own (both_first (is_home (track_at m.tracks i).holder) (is_some (track_at m.tracks i).slot && plays (track_at m.tracks i).life) is))
       by_home false is = refl
 
   edited_to_same : (m : NormalKept) (n : ℕ) → n ≤ length m.tracks → OwnAlike m.tracks k l → edited_to c k m n ≡ edited_to c l m n

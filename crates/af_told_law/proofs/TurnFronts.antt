@@ -3,7 +3,7 @@ use Rattle.std.proofs.Common.{◌≡◌, inl, inr, ℕ, ◌==◌, ◌&&◌, not,
 use Rattle.af_told_law.proofs.Common.{AllByRecursion, AllSeeOwn, CommandLook, LegalLooks, LegalTake, Listed, LooksBy, MatchOption, Outside, ServerEvent, ServerKept, Setup, Shape, SlotEntry, TakeSeen, TrackKept, Turn, events_behind_look, all_command_events, as_slot, asked, command_events, command_list, cycle_events, did, flat_map, fold-append, front_by_answer, front_of, fronts_by, heard, invalid, is_found_shut, is_home, is_own_inside, kept, lawful_front, learnt, leaves_open, look_at, look_events, mix_events, own_front, server_begins, server_keeps, status_events, stream_list, takes_command, takes_from, track_at, track_in}
 use Rattle.af_base.specs.declared.event.ServerEvent.TheVariants as server
 use Rattle.af_base.specs.declared.seen.Seen.TheVariants as seen
-use Rattle.af_told_law.specs.Outsides.{LooksTold, SameFront, SameFronts, TakeTold}
+use Rattle.af_told_law.proofs.Outsides.{LooksTold, SameFront, SameFronts, TakeTold}
 use Rattle.af_told_law.proofs.OwnFronts.{own_told}
 use Rattle.af_told_law.proofs.LegalAlike.{command_same}
 use Rattle.af_told_law.proofs.MixLooks.{own_split}

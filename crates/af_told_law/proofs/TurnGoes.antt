@@ -1,12 +1,13 @@
 -- Where each stream proxy lies after a turn that goes on, by what the turn tells.
+use Rattle.af_told_law.specs.Tells.{mutated_by}
 use Rattle.std.proofs.Common.{◌≡◌, ℕ, ◌+◌, ◌-◌, ◌<◌, ◌==◌, ◌&&◌, not, ◌⊎◌, Bool, true, false, true≢false, if◌then◌else◌, refl, sym, ap, subst, ◌∙◌, List, [], ◌∷◌, ◌++◌, append_assoc, append-nil, length, map, flat_map, Option, Some, None, eq-eqb, ne_eqb, arith, is_some}
 use Rattle.af_told_law.proofs.Common.{AreOf, Begins, BegunBy, Busy, Clean, FastState, GoesOnBy, Grows, HasHands, IsTied, Links, Listed, Load, Mutates, MutatorEvent, MutatorPoint, NormalKept, NormalState, Outside, Push, Pushed, Pushes as Past, Report, ServerEvent, ServerPart, ServerState, StreamNames, TakeSeen, TrackKept, Turn, acked_list, after_edits, append_cancel_left, asked, at, carries, cycle_events, home_stream, in_hand, in_queue, is_home, is_pushed, is_returning, items_of, kept_of, known_by, learnt, learnt_by, listed_at, map-append, marked, mix_events, must_enter, mutated, mutator_list, number_seen, packed_word, push_list, same_Some, served_to, served_tracks, setup_of, slot_number, slots, stay_put, stream_at, takes_from, track_at, tracks_at, words_of}
 use Rattle.af_model.specs.declared.states.MutatorEvent.TheVariants as mutator
 use Rattle.af_server.specs.Slot.{listed}
 use Rattle.af_normal.specs.Order.{IsInOrder}
-use Rattle.af_told_law.specs.Places.{ComesFrom, IsLentBy, QueueGoes, SlotsStand, StaysAway, StreamsGo, enters_by, events_by, rests_by, slot_in, told_by, words_by}
+use Rattle.af_told_law.proofs.Places.{ComesFrom, IsLentBy, QueueGoes, SlotsStand, StaysAway, StreamsGo, enters_by, events_by, rests_by, slot_in, words_by}
 use Rattle.af_told_law.proofs.Basics.{went}
-use Rattle.af_told_law.proofs.AckPlaces.{Acked}
+use Rattle.af_told_law.proofs.AckPlaces.{Acked, first_look}
 use Rattle.af_told_law.proofs.HandedTurn as begin
 use Rattle.af_told_law.proofs.PollTold.{marks_are, marks_so}
 use Rattle.af_told_law.proofs.PushPlaces.{PutOn, is_busy}
@@ -22,9 +23,6 @@ words_are (take ∷ takes) = ap (λ (ws : List ℕ). map packed_word take.frames
 
 one_load : (n m : ℕ) (a b : Report) → Load n a ∷ [] ≡ Load m b ∷ [] → a ≡ b
 one_load n m a b e = cc
-
-first_look : (n : ℕ) (a b : List (Option ServerState)) (xs ys : List (MutatorEvent ServerState)) → mutator.SawAck n a ∷ xs ≡ mutator.SawAck n b ∷ ys → (a ≡ b) × (xs ≡ ys)
-first_look n a b xs ys e = (cc, cc)
 
 -- two pushes with equal lists send the same items
 same_sent : (push : Push) (m : NormalKept) (a b s t pending : List (Option ServerState)) → push_list m push a s ≡ push_list m push b t → in_queue push s pending ≡ in_queue push t pending
@@ -243,20 +241,20 @@ module _ (links : Links) (x b h : NormalState) (order : IsInOrder links x) (begi
     older_x : ack ≡ false → x.mutator.past.clear ≡ false
     older_x e = ap (λ (m : Mutates ServerState StreamNames). m.past.clear) (sym mutator_h) ∙ (place.acked links h tied enough empty ack report room push y by).older e
 
-    told_y : told_by y ≡ mutated x.mutator.past.first (x.mutator.past.events ++ mutator.SawAck (number_seen (kept_of x) ack) back ∷ push_list (kept_of z) push again sent)
+    told_y : mutated_by y ≡ mutated x.mutator.past.first (x.mutator.past.events ++ mutator.SawAck (number_seen (kept_of x) ack) back ∷ push_list (kept_of z) push again sent)
     told_y = λ j. mutated (first_y j) (events_y j)
 
     -- the look saw the last number if it says so, as there is a push before if it doesn't
-    saw_number : (ack ≡ false → 0 < x.mutator.past.number) → (told_by x).pushed ≡ x.mutator.past.number → (d : Bool) → ack ≡ d → (number_seen (kept_of x) d == (told_by x).pushed) ≡ d
-    saw_number some number true e = eq-eqb x.mutator.past.number (told_by x).pushed (sym number)
-    saw_number some number false e = let l = some e in ne_eqb (x.mutator.past.number - 1) (told_by x).pushed (λ f. let n : x.mutator.past.number - 1 ≡ x.mutator.past.number = f ∙ number in omega arith)
+    saw_number : (ack ≡ false → 0 < x.mutator.past.number) → (mutated_by x).pushed ≡ x.mutator.past.number → (d : Bool) → ack ≡ d → (number_seen (kept_of x) d == (mutated_by x).pushed) ≡ d
+    saw_number some number true e = eq-eqb x.mutator.past.number (mutated_by x).pushed (sym number)
+    saw_number some number false e = let l = some e in ne_eqb (x.mutator.past.number - 1) (mutated_by x).pushed (λ f. let n : x.mutator.past.number - 1 ≡ x.mutator.past.number = f ∙ number in omega arith)
 
-    busy_number : (ack ≡ false → 0 < x.mutator.past.number) → (told_by x).pushed ≡ x.mutator.past.number → is_busy push ≡ true → (z.mutator.past.number - 1 == (told_by x).pushed) ≡ ack
+    busy_number : (ack ≡ false → 0 < x.mutator.past.number) → (mutated_by x).pushed ≡ x.mutator.past.number → is_busy push ≡ true → (z.mutator.past.number - 1 == (mutated_by x).pushed) ≡ ack
     busy_number some number is =
         let off : ack ≡ false = ap (λ (p : Past ServerState StreamNames). p.clear) (sym past_z) ∙ put.older is in
         let same : z.mutator.past.number ≡ x.mutator.past.number = ap (λ (p : Past ServerState StreamNames). p.number) past_z in
         let l = some off in
-        ne_eqb (z.mutator.past.number - 1) (told_by x).pushed (λ f. let n : z.mutator.past.number - 1 ≡ x.mutator.past.number = f ∙ number in omega arith) ∙ sym off
+        ne_eqb (z.mutator.past.number - 1) (mutated_by x).pushed (λ f. let n : z.mutator.past.number - 1 ≡ x.mutator.past.number = f ∙ number in omega arith) ∙ sym off
 
     queue_so : (ack ≡ false → 0 < x.mutator.past.number) → QueueGoes o sent x y told
     queue_so some = record {

@@ -8,8 +8,8 @@ use Rattle.af_told_law.proofs.FoundLegal.{ended_legal}
 use Rattle.af_told_law.proofs.HomeBefore.{turned_before}
 use Rattle.af_told_law.proofs.NormalFound.{turn_legal}
 use Rattle.af_told_law.proofs.TurnTracks.{stream_words, turned_stream}
-use Rattle.af_told_law.specs.Outsides.{FindsBlocks, HeardAlike}
 use Rattle.af_told_law.specs.Deeds.{Deeds, SawOwnBy, deeds_turned, done_on, stream_by}
+use Rattle.af_told_law.specs.NormalLaws.{FindsBlocks, HeardAlike}
 
 module _ (links : Links) (s : Session) (run : Run) {d : Deeds} (x : SessionState) (n : NormalState) (o : Outside) (told : Tells s run d x) (before : AreTogether links x) (after : AreTogether links (record x { normal = n })) (legal : IsLegal o x.normal n) (runs : (turn_of n.entry).ended ≡ false) (f : TurnFound)
     (finds : FindsBlocks run f) (report : HeardAlike (after_ack (turn_of n.entry).ack (kept_of x.normal)).tracks o.report f.report) (comers : ComersTell run d x.normal (turn_of n.entry) legal.lists.back) where

@@ -5,6 +5,7 @@ use Rattle.af_base.specs.declared.event.ClientEvent.TheVariants as client
 use Rattle.af_base.specs.declared.event.ServerEvent.TheVariants as server
 use Rattle.af_enough_law.specs.Seen.{frames_put}
 use Rattle.af_model.specs.PipeHistory as piped
+use Rattle.af_enough_law.proofs.Basics.{put-append}
 
 module _ (size : ℕ) where
   -- no more was taken than shown, nor shown than put, nor put than there is room for
@@ -73,10 +74,6 @@ module _ (size : ℕ) where
 
   -- ## Frames put
 
-  put_append : (xs ys : List ClientEvent) → frames_put (xs ++ ys) ≡ frames_put xs + frames_put ys
-  put_append [] ys = omega arith
-  put_append (x ∷ xs) ys = let a = put_first x (xs ++ ys) in let b = put_first x xs in let c = put_append xs ys in omega arith
-
   put_released : (cells put n : ℕ) → frames_put (releases_of cells put n) ≡ n
   put_released cells put n = by_none (n == 0) refl
     where
@@ -111,8 +108,8 @@ module _ (size : ℕ) where
   front_told few before front cells n count put more taken takes long h =
       let behind : List ClientEvent = releases_of cells (length put) n ++ client.Learn count ∷ [] in
       let all = put_all (before ++ client.SawFront front ∷ behind) (put ++ more) takes taken h in
-      let parts = put_append before (client.SawFront front ∷ behind) in
-      let released = put_append (releases_of cells (length put) n) (client.Learn count ∷ []) in
+      let parts = put-append before (client.SawFront front ∷ behind) in
+      let released = put-append (releases_of cells (length put) n) (client.Learn count ∷ []) in
       let some = put_released cells (length put) n in
       let sum = length-append put more in
       let seen = seen_at piped.start_of_pipe h.history.order (record { shown = omega arith; put = omega arith; room = omega arith }) h.history.is_legal before behind front h.history.of_one in

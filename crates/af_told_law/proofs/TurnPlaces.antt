@@ -74,28 +74,29 @@ module _ (links : Links) (x : NormalState) (tied : IsTied links x) (enough : len
   fine i = subst (λ (c : Setup). (setting_of c i).scale ≤ 4096) (sym (setup_s links x tied enough empty ack report room push y by))
       (scale_at (setup_of l).settings (tied_l links x tied enough empty ack report room push y by).sizes.scales i)
 
-  pending_seen : (b : Bool) (m m' : Mutates ServerState StreamNames) → WasAcked m b m' → m'.pending ≡ m.pending
-  pending_seen true m m' w = ap (λ (n : Mutates ServerState StreamNames). n.pending) w.1
-  pending_seen false m m' w = ap (λ (n : Mutates ServerState StreamNames). n.pending) w.1.2
+  mutator_seen : (d : Bool) (m : Mutates ServerState StreamNames) → WasAcked x.mutator d m → (m.draft ≡ x.mutator.draft) × (m.past.last ≡ x.mutator.past.last) × (m.pending ≡ x.mutator.pending)
+  mutator_seen true m w = (ap (λ (n : Mutates ServerState StreamNames). n.draft) w.1, ap (λ (n : Mutates ServerState StreamNames). n.past.last) w.1, ap (λ (n : Mutates ServerState StreamNames). n.pending) w.1)
+  mutator_seen false m w = (ap (λ (n : Mutates ServerState StreamNames). n.draft) w.1.2, ap (λ (n : Mutates ServerState StreamNames). n.past.last) w.1.2, ap (λ (n : Mutates ServerState StreamNames). n.pending) w.1.2)
 
   pending_s : s.mutator.pending ≡ x.mutator.pending
   pending_s = ap (λ (m : Mutates ServerState StreamNames). m.pending) mutator_home ∙ (acked_list links ack x home tied by.sees).4
 
   wide : length s.mutator.pending ≡ slots
   wide = ap (λ (items : Items). length items) pending_s
-      ∙ sym (ap (λ (items : Items). length items) (pending_seen ack x.mutator by.sees.mutator by.sees.acked)) ∙ by.sees.held.lengths.0
+      ∙ sym (ap (λ (items : Items). length items) (mutator_seen ack by.sees.mutator by.sees.acked).2) ∙ by.sees.held.lengths.0
 
   pub placed : Placed (record s { mutator = begun s.mutator }) fine (length s.tracks) ed
   placed = all_placed (record s { mutator = begun s.mutator }) fine (sound_s links x tied enough empty ack report room push y by) wide (length s.tracks) ed by.rest.edits.tracks
 
   -- neither the command nor the end of the mutation moves an item
-  items_z : (z.mutator.pending ≡ ed.mutator.pending) × (z.mutator.returned ≡ ed.mutator.returned)
-  items_z = subst (λ (w : NormalState). (w.mutator.pending ≡ ed.mutator.pending) × (w.mutator.returned ≡ ed.mutator.returned)) (sym by.rest.edits.leaves) (by_same (code_of (due_command room ed) == code_of ed.mutator.draft.command) (due_command room ed) ed.mutator)
+  items_z : (z.mutator.pending ≡ ed.mutator.pending) × (z.mutator.returned ≡ ed.mutator.returned) × ((j : ℕ) → carries z.mutator.draft j ≡ carries ed.mutator.draft j)
+  items_z = subst (λ (w : NormalState). (w.mutator.pending ≡ ed.mutator.pending) × (w.mutator.returned ≡ ed.mutator.returned) × ((j : ℕ) → carries w.mutator.draft j ≡ carries ed.mutator.draft j)) (sym by.rest.edits.leaves) (by_same (code_of (due_command room ed) == code_of ed.mutator.draft.command) (due_command room ed) ed.mutator)
     where
       by_same : (b : Bool) (command : Command) (m : Mutates ServerState StreamNames)
           → ((finished (if b then m else record m { draft = with_command command m.draft; edited = true })).pending ≡ m.pending) × ((finished (if b then m else record m { draft = with_command command m.draft; edited = true })).returned ≡ m.returned)
-      by_same true command m = (refl, refl)
-      by_same false command m = (refl, refl)
+          × ((j : ℕ) → carries (finished (if b then m else record m { draft = with_command command m.draft; edited = true })).draft j ≡ carries m.draft j)
+      by_same true command m = (refl, refl, λ j. refl)
+      by_same false command m = (refl, refl, λ j. refl)
 
   tracks_p : p.tracks ≡ ed.tracks
   tracks_p = ap (λ (w : NormalState). w.tracks) by.rest.pushes.same ∙ ap (λ (w : NormalState). w.tracks) by.rest.edits.leaves
@@ -186,10 +187,6 @@ module _ (links : Links) (x : NormalState) (tied : IsTied links x) (enough : len
 
   -- ## Which slots have an item that waits
 
-  mutator_seen : (d : Bool) (m : Mutates ServerState StreamNames) → WasAcked x.mutator d m → (m.draft ≡ x.mutator.draft) × (m.past.last ≡ x.mutator.past.last)
-  mutator_seen true m w = (ap (λ (n : Mutates ServerState StreamNames). n.draft) w.1, ap (λ (n : Mutates ServerState StreamNames). n.past.last) w.1)
-  mutator_seen false m w = (ap (λ (n : Mutates ServerState StreamNames). n.draft) w.1.2, ap (λ (n : Mutates ServerState StreamNames). n.past.last) w.1.2)
-
   -- the draft is as it was when the edits begin
   draft_s : s.mutator.draft ≡ x.mutator.draft
   draft_s = ap (λ (m : Mutates ServerState StreamNames). m.draft) (mutator_s links x tied enough empty ack report room push y by)
@@ -201,20 +198,13 @@ module _ (links : Links) (x : NormalState) (tied : IsTied links x) (enough : len
 
   pends_s : Pends x.mutator.past.last s.mutator
   pends_s j low = let seen = mutator_seen ack by.sees.mutator by.sees.acked in
-      ap (λ (items : Items). is_some (at items j)) (pending_s ∙ sym (pending_seen ack x.mutator by.sees.mutator by.sees.acked)) ∙ (by.sees.held.each j low).pends
+      ap (λ (items : Items). is_some (at items j)) (pending_s ∙ sym (mutator_seen ack by.sees.mutator by.sees.acked).2) ∙ (by.sees.held.each j low).pends
       ∙ (λ q. carries ((seen.0 ∙ sym draft_s) q) j && not (carries (seen.1 q) j))
-
-  draft_z : (j : ℕ) → carries z.mutator.draft j ≡ carries ed.mutator.draft j
-  draft_z j = subst (λ (w : NormalState). carries w.mutator.draft j ≡ carries ed.mutator.draft j) (sym by.rest.edits.leaves) (by_same (code_of (due_command room ed) == code_of ed.mutator.draft.command) (due_command room ed) ed.mutator)
-    where
-      by_same : (b : Bool) (command : Command) (m : Mutates ServerState StreamNames) → carries (finished (if b then m else record m { draft = with_command command m.draft; edited = true })).draft j ≡ carries m.draft j
-      by_same true command m = refl
-      by_same false command m = refl
 
   pub pends_z : Pends x.mutator.past.last z.mutator
   pends_z j low = ap (λ (items : Items). is_some (at items j)) items_z.0
       ∙ all_pend (record s { mutator = begun s.mutator }) fine x.mutator.past.last (λ i enters. (free i enters).0) (sound_s links x tied enough empty ack report room push y by) wide pends_s (length s.tracks) ed by.rest.edits.tracks j low
-      ∙ ap (λ (c : Bool). c && not (carries x.mutator.past.last j)) (sym (draft_z j))
+      ∙ ap (λ (c : Bool). c && not (carries x.mutator.past.last j)) (sym (items_z.2 j))
 
   pub wide_z : length z.mutator.pending ≡ slots
   wide_z = ap (λ (items : Items). length items) items_z.0 ∙ placed.wide

@@ -1,22 +1,25 @@
 -- What a turn of the normal mixer does at its end of the queue is told by the run, and known again after it.
-use Rattle.std.proofs.Common.{◌≡◌, ◌≢◌, ℕ, zero, suc, ◌+◌, ◌-◌, ◌<◌, ◌≤◌, ◌==◌, ◌&&◌, ◌||◌, not, Bool, true, false, true≢false, if◌then◌else◌, map, List, [], ◌∷◌, ◌++◌, length, Option, None, refl, sym, ap, subst, ◌∙◌, append-nil, arith}
-use Rattle.af_told_law.proofs.Common.{Busy, Clean, FastState, Item, KeepsMutator, Learnt, LegalPush, MutatorEvent, NormalKept, NormalState, Outside, Push, Pushed, QueueTold, Run, ServerState, Setup, Turn, after_edits, brought_by, going, initial, is_look_at, is_pushed, items_of, kept_of, learnt, length-append, list_any, list_any-append, marked, marked_event, mutator_does, mutator_list, number_seen, one, ones, push_list, setup_of, state_at, state_of, two, unwrap_or, was_seen}
+use Rattle.std.proofs.Common.{◌≡◌, ◌≢◌, ℕ, ◌+◌, ◌-◌, ◌<◌, ◌≤◌, ◌==◌, ◌&&◌, ◌||◌, not, Bool, true, false, true≢false, if◌then◌else◌, map, List, [], ◌∷◌, ◌++◌, length, Option, refl, sym, ap, subst, ◌∙◌, append-nil, arith}
+use Rattle.af_told_law.proofs.Common.{Busy, Clean, FastState, Item, KeepsMutator, Learnt, LegalPush, MutatorEvent, NormalKept, NormalState, Outside, Push, Pushed, QueueTold, Run, ServerState, Setup, Turn, after_edits, brought_by, eq-eqb, going, initial, is_look_at, is_pushed, items_of, kept_of, learnt, length-append, list_any, list_any-append, map-append, marked, marked_event, mutator_does, mutator_list, ne_eqb, number_seen, ones, or_false, or_true, push_list, setup_of, state_at, state_more, unwrap_or, was_seen}
 use Rattle.af_model.specs.declared.states.MutatorEvent.TheVariants as mutator
-use Rattle.af_told_law.specs.QueueTurned.{MutatorGoes, QueueKnown}
+use Rattle.af_told_law.specs.QueueTurned.{QueueKnown}
+use Rattle.af_judge.proofs.QueueSteps.{ones_more}
+
+-- The mutator looked and perhaps pushed: its list grew so, with these items. A look that first sees the last state acknowledged brings those of the slots that went off with it, and a push sends those of the slots that are new in its state
+pub record MutatorGoes (o : Outside) (x y : NormalState) (e : Turn) : Type 0 where
+  pub back : List (Option ServerState)
+  pub again : List (Option ServerState)
+  pub sent : List (Option ServerState)
+  pub list : y.mutator.past.events ≡ x.mutator.past.events ++ mutator_list (setup_of x) (learnt o) (kept_of x) e back again sent
+  pub marks_back : marked back ≡ (if e.ack && not x.mutator.past.clear then items_of x.mutator.past.before x.mutator.past.last else [])
+  pub marks_again : marked again ≡ (if is_pushed e.push && not e.ack then items_of x.mutator.past.before x.mutator.past.last else [])
+  pub marks_sent : is_pushed e.push ≡ true → marked sent ≡ items_of y.mutator.past.last x.mutator.past.last
+  pub older : e.ack ≡ false → x.mutator.past.clear ≡ false
+  pub shown : is_pushed e.push ≡ true → (y.mutator.past.before ≡ x.mutator.past.last) × (y.mutator.past.clear ≡ false)
+  pub still : is_pushed e.push ≡ false → (y.mutator.past.before ≡ x.mutator.past.before) × (y.mutator.past.clear ≡ e.ack)
 
 abbrev Events : Type 0
 Events = List (MutatorEvent Item)
-
--- the mutator's list after some events more
-ones_told : (told : QueueTold) (es : Events) → ones (mutator_does es told) ≡ ones told ++ es
-ones_told [] [] = refl
-ones_told [] (e ∷ es) = ap (λ (l : Events). e ∷ l) (ones_told [] es)
-ones_told (one a ∷ told) es = ap (λ (l : Events). a ∷ l) (ones_told told es)
-ones_told (two b ∷ told) es = ones_told told es
-
-map_parts : (xs ys : List (MutatorEvent ServerState)) → map marked_event (xs ++ ys) ≡ map marked_event xs ++ map marked_event ys
-map_parts [] ys = refl
-map_parts (x ∷ xs) ys = ap (λ (l : Events). marked_event x ∷ l) (map_parts xs ys)
 
 -- the list of a turn with its items marked
 marked_push : (m : NormalKept) (push : Push) (again sent : List (Option ServerState)) → map marked_event (push_list m push again sent) ≡ push_list m push (marked again) (marked sent)
@@ -46,52 +49,28 @@ sent_unpushed m (Pushed number) again sent other h = absurd (true≢false h)
 -- ## States
 
 pub state_first : (frames : ℕ) (states more : List FastState) (k : ℕ) → k ≤ length states → state_at frames (states ++ more) k ≡ state_at frames states k
-state_first frames states more k low = ap (λ (o : Option FastState). unwrap_or o (initial frames)) (same states k low)
-  where
-    same : (states : List FastState) (k : ℕ) → k ≤ length states → state_of (states ++ more) k ≡ state_of states k
-    same states zero low = zero_none (states ++ more) ∙ sym (zero_none states)
-      where
-        zero_none : (l : List FastState) → state_of l zero ≡ None
-        zero_none [] = refl
-        zero_none (x ∷ l) = refl
-    same [] (suc k) low = absurd (omega arith)
-    same (x ∷ states) (suc zero) low = refl
-    same (x ∷ states) (suc (suc k)) low = same states (suc k) (omega arith)
+state_first frames states more k low = ap (λ (o : Option FastState). unwrap_or o (initial frames)) (state_more states more k low)
 
 -- ## Looks
 
 module _ (k : ℕ) (told : QueueTold) (es : Events) where
   seen_parts : was_seen k (mutator_does es told) ≡ (was_seen k told || list_any (is_look_at k) es)
-  seen_parts = ap (list_any (is_look_at k)) (ones_told told es) ∙ list_any-append (is_look_at k) (ones told) es
-
-not_same : (a k : ℕ) → a ≢ k → (a == k) ≡ false
-not_same a k ne = grind arith
-
-same_number : (k : ℕ) → (k == k) ≡ true
-same_number k = grind arith
-
-or_false : (b : Bool) → (b || false) ≡ b
-or_false true = refl
-or_false false = refl
-
-or_true : (b : Bool) → (b || true) ≡ true
-or_true true = refl
-or_true false = refl
+  seen_parts = ap (list_any (is_look_at k)) (ones_more told es) ∙ list_any-append (is_look_at k) (ones told) es
 
 -- no look of a push list sees the number k, if that is later than the last one
 pub unseen_push : (m : NormalKept) (push : Push) (again sent : List (Option Item)) (k : ℕ) → LegalPush m push → m.pushed < k → list_any (is_look_at k) (push_list m push again sent) ≡ false
 unseen_push m Clean again sent k legal more = refl
-unseen_push m (Busy seen expected) again sent k legal more = ap (λ (b : Bool). b || false) (not_same (m.pushed - 1) k (λ is. omega (arith, is, more)))
+unseen_push m (Busy seen expected) again sent k legal more = ap (λ (b : Bool). b || false) (ne_eqb (m.pushed - 1) k (λ is. omega (arith, is, more)))
 unseen_push m (Pushed number) again sent k legal more = by_first (m.pushed == 0)
   where
     by_first : (b : Bool) → list_any (is_look_at k) ((if b then [] else mutator.SawAck m.pushed again ∷ []) ++ mutator.Push number m.draft sent ∷ []) ≡ false
     by_first true = refl
-    by_first false = ap (λ (b : Bool). b || false) (not_same m.pushed k (λ is. omega (arith, is, more)))
+    by_first false = ap (λ (b : Bool). b || false) (ne_eqb m.pushed k (λ is. omega (arith, is, more)))
 
 -- if nothing is pushed, no look of the push list sees the last one
 pub unseen_last : (m : NormalKept) (push : Push) (again sent : List (Option Item)) → LegalPush m push → is_pushed push ≡ false → list_any (is_look_at m.pushed) (push_list m push again sent) ≡ false
 unseen_last m Clean again sent legal none = refl
-unseen_last m (Busy seen expected) again sent legal none = ap (λ (b : Bool). b || false) (not_same (m.pushed - 1) m.pushed (λ is. let some = legal.1 in omega (arith, is, some)))
+unseen_last m (Busy seen expected) again sent legal none = ap (λ (b : Bool). b || false) (ne_eqb (m.pushed - 1) m.pushed (λ is. let some = legal.1 in omega (arith, is, some)))
 unseen_last m (Pushed number) again sent legal none = absurd (true≢false none)
 
 -- ## The turn
@@ -126,8 +105,8 @@ module _ (frames : ℕ) (run : Run) (o p : Outside) (x y : NormalState) (e : Tur
   back_told = goes.marks_back ∙ by_clear x.mutator.past.clear ((many == 0) || was_seen many run.queue) known.clear refl
     where
       by_ack : (d : Bool) → e.ack ≡ d → (if d && true then before_last else []) ≡ (if (number_seen m d == many) && true then before_last else [])
-      by_ack true is = ap (λ (q : Bool). if q && true then before_last else []) (sym (ap (λ (n : ℕ). n == many) number ∙ same_number many))
-      by_ack false is = ap (λ (q : Bool). if q && true then before_last else []) (sym (not_same (x.mutator.past.number - 1) many (λ same. let few = some is in omega (arith, number, same, few))))
+      by_ack true is = ap (λ (q : Bool). if q && true then before_last else []) (sym (ap (λ (n : ℕ). n == many) number ∙ eq-eqb many many refl))
+      by_ack false is = ap (λ (q : Bool). if q && true then before_last else []) (sym (ne_eqb (x.mutator.past.number - 1) many (λ same. let few = some is in omega (arith, number, same, few))))
 
       none_if : (q : Bool) (l : List (Option Item)) → (if q && false then l else []) ≡ []
       none_if true l = refl
@@ -149,7 +128,7 @@ module _ (frames : ℕ) (run : Run) (o p : Outside) (x y : NormalState) (e : Tur
       by_ack true false is =
           let unseen : ((many == 0) || was_seen many run.queue) ≡ false = sym known.clear ∙ goes.older is in
           items_are (some_pushed unseen)
-          ∙ sym (ap (λ (q : Bool). if q && not ((many == 0) || was_seen many run.queue) then before_last else []) (same_number many) ∙ ap (λ (q : Bool). if not q then before_last else []) unseen)
+          ∙ sym (ap (λ (q : Bool). if q && not ((many == 0) || was_seen many run.queue) then before_last else []) (eq-eqb many many refl) ∙ ap (λ (q : Bool). if not q then before_last else []) unseen)
 
   -- the list with the items that the run tells
   module _ (draft : is_pushed e.push ≡ true → y.mutator.past.last ≡ (after_edits c (learnt p) e m).draft)
@@ -169,13 +148,13 @@ module _ (frames : ℕ) (run : Run) (o p : Outside) (x y : NormalState) (e : Tur
     pub list_told : map marked_event y.mutator.past.events ≡ ones (mutator_does told run.queue)
     list_told =
         ap (map marked_event) goes.list
-        ∙ map_parts x.mutator.past.events (mutator_list c (learnt o) m e goes.back goes.again goes.sent)
+        ∙ map-append marked_event x.mutator.past.events (mutator_list c (learnt o) m e goes.back goes.again goes.sent)
         ∙ ap (λ (l : Events). l ++ map marked_event (mutator_list c (learnt o) m e goes.back goes.again goes.sent)) keeps
         ∙ ap (λ (l : Events). ones run.queue ++ l) (marked_list c (learnt o) m e goes.back goes.again goes.sent
         ∙ alike (marked goes.back) (marked goes.again) (marked goes.sent)
         ∙ (λ i. mutator_list c (learnt p) m e (back_told i) (again_told i) (marked goes.sent))
         ∙ sent_told _ _)
-        ∙ sym (ones_told run.queue told)
+        ∙ sym (ones_more run.queue told)
 
     -- ## What is known after the turn
 
@@ -216,7 +195,7 @@ module _ (frames : ℕ) (run : Run) (o p : Outside) (x y : NormalState) (e : Tur
 
       beyond_after : (k : ℕ) → many < k → was_seen k after.queue ≡ false
       beyond_after k more =
-          let low : (number_seen m e.ack == k) ≡ false = not_same (number_seen m e.ack) k (few e.ack) in
+          let low : (number_seen m e.ack == k) ≡ false = ne_eqb (number_seen m e.ack) k (few e.ack) in
           seen_after k ∙ (λ i. known.beyond k more i || (low i || unseen_rest k more i))
         where
           few : (b : Bool) → number_seen m b ≡ k → ⊥
@@ -235,10 +214,10 @@ module _ (frames : ℕ) (run : Run) (o p : Outside) (x y : NormalState) (e : Tur
         where
           by_ack : (b : Bool) → e.ack ≡ b → b ≡ ((many == 0) || (was_seen many run.queue || ((number_seen m b == many) || list_any (is_look_at many) rest)))
           by_ack true is =
-              let hit : (x.mutator.past.number == many) ≡ true = ap (λ (n : ℕ). n == many) number ∙ same_number many in
+              let hit : (x.mutator.past.number == many) ≡ true = ap (λ (n : ℕ). n == many) number ∙ eq-eqb many many refl in
               sym (ap (λ (d : Bool). (many == 0) || (was_seen many run.queue || (d || list_any (is_look_at many) rest))) hit ∙ ap (λ (d : Bool). (many == 0) || d) (or_true (was_seen many run.queue)) ∙ or_true (many == 0))
           by_ack false is =
-              let missed : (x.mutator.past.number - 1 == many) ≡ false = not_same (x.mutator.past.number - 1) many (λ same. let few = some is in omega (arith, number, same, few)) in
+              let missed : (x.mutator.past.number - 1 == many) ≡ false = ne_eqb (x.mutator.past.number - 1) many (λ same. let few = some is in omega (arith, number, same, few)) in
               let unseen : ((many == 0) || was_seen many run.queue) ≡ false = sym known.clear ∙ goes.older is in
               sym ((λ i. (many == 0) || (was_seen many run.queue || (missed i || unseen_now none i))) ∙ ap (λ (d : Bool). (many == 0) || d) (or_false (was_seen many run.queue)) ∙ unseen)
       known_by true pushes =
@@ -246,7 +225,7 @@ module _ (frames : ℕ) (run : Run) (o p : Outside) (x y : NormalState) (e : Tur
           let long : length (run.states ++ (after_edits c (learnt p) e m).draft ∷ []) ≡ many + 1 = length-append run.states ((after_edits c (learnt p) e m).draft ∷ []) in
           let shown = goes.shown pushes in
           subst (λ (l : List FastState). QueueKnown frames (record after { states = l }) y) (sym more) (record {
-            clear = shown.1 ∙ sym (ap (λ (n : ℕ). (n == 0) || was_seen n after.queue) long ∙ (λ i. not_same (many + 1) 0 (λ is. omega (arith, is)) i || beyond_after (many + 1) (omega arith) i));
+            clear = shown.1 ∙ sym (ap (λ (n : ℕ). (n == 0) || was_seen n after.queue) long ∙ (λ i. ne_eqb (many + 1) 0 (λ is. omega (arith, is)) i || beyond_after (many + 1) (omega arith) i));
             beyond = (λ k low. beyond_after k (omega (arith, long, low)));
             before = (λ more. shown.0 ∙ last ∙ sym (state_first frames run.states ((after_edits c (learnt p) e m).draft ∷ []) many (omega arith)) ∙ ap (state_at frames (run.states ++ (after_edits c (learnt p) e m).draft ∷ [])) (let n : many ≡ length (run.states ++ (after_edits c (learnt p) e m).draft ∷ []) - 1 = omega (arith, long) in n));
           })

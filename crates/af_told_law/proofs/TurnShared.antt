@@ -1,26 +1,12 @@
 -- After a turn of the normal mixer the run with this turn tells the ends of the queue, the report and the pipe, and the two mixers.
 use Rattle.std.proofs.Common.{Bool, List, [], ap, false, if◌then◌else◌, length, map, refl, subst, sym, true, true≢false, ℕ, ⊎_elim, ◌++◌, ◌∙◌, ◌∷◌, ◌≡◌, ◌⊎◌}
-use Rattle.af_told_law.proofs.Common.{ClientEvent, ClientPart, Event, Frame, IsLegal, NormalState, Outside, Run, Session, SessionState, Setup, Turn, front_by_room, going, one, ones, packed_word, pipe_cells, pipe_list, pipe_size, pipe_turned, put_by, releases_of, room_by, turn_of, two, twos}
+use Rattle.af_told_law.proofs.Common.{ClientEvent, ClientPart, Frame, IsLegal, NormalState, Outside, Run, Session, SessionState, Setup, Turn, front_by_room, going, ones, packed_word, pipe_cells, pipe_list, pipe_size, pipe_turned, put_by, releases_of, room_by, turn_of, twos}
 use Rattle.af_base.specs.declared.event.ClientEvent.TheVariants as client
 use Rattle.af_runs.specs.Sessions.{setup_of}
 use Rattle.af_told_law.specs.Tells.{Tells}
 use Rattle.af_told_law.specs.NormalLaws.{ShowsFront}
 use Rattle.af_told_law.specs.Deeds.{Deeds}
-
--- ## The lists of two ends after events of the first
-
-module _ {A B : Type 0} where
-  pub ones_more : (told : List (Event A B)) (es : List A) → ones (told ++ map one es) ≡ ones told ++ es
-  ones_more [] [] = refl
-  ones_more [] (e ∷ es) = ap (λ (l : List A). e ∷ l) (ones_more [] es)
-  ones_more (one a ∷ told) es = ap (λ (l : List A). a ∷ l) (ones_more told es)
-  ones_more (two b ∷ told) es = ones_more told es
-
-  pub twos_same : (told : List (Event A B)) (es : List A) → twos (told ++ map one es) ≡ twos told
-  twos_same [] [] = refl
-  twos_same [] (e ∷ es) = twos_same [] es
-  twos_same (one a ∷ told) es = twos_same told es
-  twos_same (two b ∷ told) es = ap (λ (l : List B). b ∷ l) (twos_same told es)
+use Rattle.af_judge.proofs.QueueSteps.{ones_more, twos_stay}
 
 -- ## The pipe
 
@@ -76,4 +62,4 @@ module _ (s : Session) (run : Run) {d : Deeds} (x : SessionState) (n : NormalSta
       by_end false runs = ap (λ (b : Bool). if b then [] else map packed_word put) (sym runs)
 
   pub pipe_takes : twos (pipe_turned c e run.pipe).told ≡ twos run.pipe.told
-  pipe_takes = twos_same run.pipe.told (pipe_list c (pipe_cells c) (length run.pipe.put) e)
+  pipe_takes = twos_stay run.pipe.told (pipe_list c (pipe_cells c) (length run.pipe.put) e)

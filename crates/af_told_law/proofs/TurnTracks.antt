@@ -1,11 +1,11 @@
 -- What a turn of a session's normal mixer leaves of each track's proxies is told by the run's turn.
-use Rattle.std.proofs.Common.{◌≡◌, ◌⊎◌, inl, inr, ℕ, ◌<◌, Bool, true, false, true≢false, if◌then◌else◌, fold, map, List, [], ◌∷◌, ◌++◌, length, slice_get, Some, refl, sym, ap, ◌∙◌, subst, arith, append_assoc, append-nil}
-use Rattle.af_told_law.proofs.Common.{Adds, AreTogether, BlockTold, GoesOnFrom, HandEvent, IsLegal, Links, Listed, Moment, NormalKept, NormalState, Outside, Run, ServerEvent, ServerState, Session, SessionState, Setup, TakeSeen, TrackKept, Turn, TurnFound, after_ack, asked, by_hand, by_server, commands_turned, cycle_events, flat_map, going, hand_events, hand_events_of, hand_of, invalid, is_home, kept_of, learnt, listed, mix_events, not_yet, outside_of, packed_word, same_Some, server_list, server_of, setup_of as mixer_setup, stream_list, stream_turned, takes_from, told_at, track_at, track_in, tracks_at, turn_after, turn_of, words_taken}
+use Rattle.std.proofs.Common.{◌≡◌, ◌⊎◌, inl, inr, ℕ, ◌<◌, Bool, true, false, true≢false, if◌then◌else◌, fold, map, List, [], ◌∷◌, ◌++◌, length, slice_get, Some, refl, sym, ap, ◌∙◌, subst, arith, append-nil}
+use Rattle.af_told_law.proofs.Common.{Adds, AreTogether, BlockTold, GoesOnFrom, HandEvent, IsLegal, Links, Listed, Moment, NormalKept, NormalState, Outside, Run, ServerEvent, ServerState, Session, SessionState, Setup, TakeSeen, TrackKept, Turn, TurnFound, after_ack, asked, by_hand, commands_turned, cycle_events, flat_map, going, hand_events, hand_events_of, invalid, is_home, kept_of, learnt, listed, mix_events, not_yet, outside_of, packed_word, same_Some, server_list, setup_of as mixer_setup, stream_list, stream_turned, takes_from, told_at, track_at, track_in, tracks_at, turn_after, turn_of, words_taken}
 use Rattle.af_runs.specs.Blocks.{hand_list as told_hand}
 use Rattle.af_runs.specs.Sessions.{setup_of}
 use Rattle.af_told_law.specs.Comers.{ComersTell}
 use Rattle.af_told_law.specs.Alike.{TellAlike}
-use Rattle.af_told_law.specs.Outsides.{AreAlike, FindsBlocks, HeardAlike, IsFound, SameFront, SawCommands, SawStream}
+use Rattle.af_told_law.proofs.Outsides.{AreAlike, IsFound, SameFront, SawCommands, SawStream}
 use Rattle.af_told_law.specs.Tells.{Tells, TellsCommands, TellsServer}
 use Rattle.af_told_law.proofs.ClientTold.{did_same}
 use Rattle.af_told_law.proofs.FoundLegal.{found_alike, looks_same_fronts, taken_same}
@@ -16,24 +16,10 @@ use Rattle.af_told_law.proofs.TakenHome.{taken_home}
 use Rattle.af_told_law.proofs.TurnAlike.{learn_alike, turn_same}
 use Rattle.af_told_law.specs.Deeds.{DeedTold, Deeds, SawOwnOf, commands_by, done_on, stream_by}
 use Rattle.af_told_law.proofs.MixLooks.{real_list}
+use Rattle.af_told_law.specs.NormalLaws.{FindsBlocks, HeardAlike}
+use Rattle.af_enough_law.proofs.MoreTold.{hand-hand, hand-server, server-hand, server-server}
 
 -- ## A block after some events
-
-server_more : (told : List Moment) (es : List ServerEvent) → server_of (fold (λ (sofar : List Moment) (m : Moment). m ∷ sofar) told (map by_server es)) ≡ server_of told ++ es
-server_more told [] = sym (append-nil (server_of told))
-server_more told (e ∷ es) = server_more (by_server e ∷ told) es ∙ append_assoc (server_of told) (e ∷ []) es
-
-server_still : (told : List Moment) (hs : List HandEvent) → server_of (fold (λ (sofar : List Moment) (m : Moment). m ∷ sofar) told (map by_hand hs)) ≡ server_of told
-server_still told [] = refl
-server_still told (h ∷ hs) = server_still (by_hand h ∷ told) hs
-
-hand_more : (told : List Moment) (hs : List HandEvent) → hand_of (fold (λ (sofar : List Moment) (m : Moment). m ∷ sofar) told (map by_hand hs)) ≡ hand_of told ++ hs
-hand_more told [] = sym (append-nil (hand_of told))
-hand_more told (h ∷ hs) = hand_more (by_hand h ∷ told) hs ∙ append_assoc (hand_of told) (h ∷ []) hs
-
-hand_still : (told : List Moment) (es : List ServerEvent) → hand_of (fold (λ (sofar : List Moment) (m : Moment). m ∷ sofar) told (map by_server es)) ≡ hand_of told
-hand_still told [] = refl
-hand_still told (e ∷ es) = hand_still (by_server e ∷ told) es
 
 -- the words that a turn took from a stream
 abbrev pub stream_words : Turn → ℕ → List ℕ
@@ -42,11 +28,11 @@ stream_words e i = going e (map packed_word (flat_map (λ (take : TakeSeen). tak
 -- a stream block's lists after a turn
 module _ (c : Setup) (p : Outside) (m : NormalKept) (e : Turn) (i : ℕ) (b : BlockTold) where
   pub stream_servers : server_list (stream_turned c p m e i b) ≡ server_list b ++ stream_list c p e (tracks_at c (learnt p) m e i) i
-  stream_servers = server_more (fold (λ (sofar : List Moment) (one : Moment). one ∷ sofar) b.told (map by_hand (hand_events_of e i))) (stream_list c p e (tracks_at c (learnt p) m e i) i)
-      ∙ ap (λ (es : List ServerEvent). es ++ stream_list c p e (tracks_at c (learnt p) m e i) i) (server_still b.told (hand_events_of e i))
+  stream_servers = server-server (fold (λ (sofar : List Moment) (one : Moment). one ∷ sofar) b.told (map by_hand (hand_events_of e i))) (stream_list c p e (tracks_at c (learnt p) m e i) i)
+      ∙ ap (λ (es : List ServerEvent). es ++ stream_list c p e (tracks_at c (learnt p) m e i) i) (hand-server b.told (hand_events_of e i))
 
   stream_hands : told_hand (stream_turned c p m e i b) ≡ told_hand b ++ hand_events_of e i
-  stream_hands = hand_still (fold (λ (sofar : List Moment) (one : Moment). one ∷ sofar) b.told (map by_hand (hand_events_of e i))) (stream_list c p e (tracks_at c (learnt p) m e i) i) ∙ hand_more b.told (hand_events_of e i)
+  stream_hands = server-hand (fold (λ (sofar : List Moment) (one : Moment). one ∷ sofar) b.told (map by_hand (hand_events_of e i))) (stream_list c p e (tracks_at c (learnt p) m e i) i) ∙ hand-hand b.told (hand_events_of e i)
 
 module _ (links : Links) (s : Session) (run : Run) {d : Deeds} (x : SessionState) (n : NormalState) (o : Outside) (told : Tells s run d x) (before : AreTogether links x) (legal : IsLegal o x.normal n) (runs : (turn_of n.entry).ended ≡ false) (f : TurnFound) (finds : FindsBlocks run f)
     (report : HeardAlike (after_ack (turn_of n.entry).ack (kept_of x.normal)).tracks o.report f.report) (comers : ComersTell run d x.normal (turn_of n.entry) legal.lists.back) where
@@ -110,7 +96,7 @@ module _ (links : Links) (s : Session) (run : Run) {d : Deeds} (x : SessionState
           taken = adds.took ∙ (λ j. was.server.taken j ++ words j);
         };
         whole = legal.lists.whole i here.0 t here.1 is ∙ was.whole;
-        none = hand_still b.told (told_commands i) ∙ was.none;
+        none = server-hand b.told (told_commands i) ∙ was.none;
       }
 
   -- what a command proxy did is told
@@ -118,7 +104,7 @@ module _ (links : Links) (s : Session) (run : Run) {d : Deeds} (x : SessionState
   commands_did i low =
       let b : BlockTold = (told_at run i).commands in
       let real : o.commands i ≡ real_list b (d.commands i) = command_real links s run x n o told before legal runs f finds report comers i low in
-      let grown : server_list (commands_turned (setup_of s) (seen_by (setup_of s)) run.normal e i b) ≡ server_list b ++ told_commands i = server_more b.told (told_commands i) in record {
+      let grown : server_list (commands_turned (setup_of s) (seen_by (setup_of s)) run.normal e i b) ≡ server_list b ++ told_commands i = server-server b.told (told_commands i) in record {
         alike = subst (λ (z : List ServerEvent × List ServerEvent). TellAlike b.shape z.0 z.1)
             (λ j. ((real j).events ++ commands_by c m o e i, (ap (λ (zs : List ServerEvent). server_list b ++ zs) (commands_setup i) ∙ sym grown) j))
             (subst (λ (y : BlockTold). TellAlike y.shape ((o.commands i).events ++ commands_by c m o e i) (server_list y ++ commands_by c m (seen_by c) e i)) (finds.commands i)

@@ -1,7 +1,6 @@
 -- What the servers of a session's blocks did, wherever their proxies are, and what a run tells of it.
-use Rattle.std.specs.Prelude.{◌≡◌, ℕ, ◌<◌, true, if◌then◌else◌, List, [], ◌∷◌, ◌++◌, length}
+use Rattle.std.specs.Prelude.{◌≡◌, ℕ, ◌<◌, true, List, ◌++◌, length}
 use Rattle.af_base.specs.declared.event.ServerEvent.{ServerEvent}
-use Rattle.af_base.specs.declared.event.ServerEvent.TheVariants as server
 use Rattle.af_cblk.specs.Rule.{StartsWith}
 use Rattle.af_life.specs.Heard.{learnt}
 use Rattle.af_life.specs.Kept.{NormalKept, Outside, Setup}
@@ -10,9 +9,8 @@ use Rattle.af_base.specs.Turn.{Turn}
 use Rattle.af_model.specs.declared.shape.Shape.{Shape}
 use Rattle.af_model.specs.ServerCalls.{server_begins}
 use Rattle.af_model.specs.Spelled.{AllSeeOwn}
-use Rattle.af_runs.specs.Blocks.{BlockTold, Marks, client_list, is_tame, server_list}
-use Rattle.af_runs.specs.Runs.{Run, TrackTold, takes_part, told_at}
-use Rattle.af_runs.specs.Sessions.{Session, track_count}
+use Rattle.af_runs.specs.Blocks.{BlockTold, Marks, server_list}
+use Rattle.af_runs.specs.Runs.{Run, TrackTold, told_at}
 use Rattle.af_told_law.specs.Alike.{TellAlike}
 
 -- ## One server
@@ -58,27 +56,7 @@ pub record SawOwnBy (marks : Marks) (run : Run) (d : Deeds) : Type 0 where
   pub streams : (i : ℕ) → i < length run.tracks → marks.streams i ≡ true → SawOwnOf (told_at run i).stream.shape (d.streams i)
   pub commands : (i : ℕ) → i < length run.tracks → marks.commands i ≡ true → SawOwnOf (told_at run i).commands.shape (d.commands i)
 
--- the blocks that weren't poked so far
-abbrev pub tame_marks : Run → Marks
-tame_marks run = record { streams = λ i. is_tame (told_at run i).stream; commands = λ i. is_tame (told_at run i).commands }
-
 -- ## Meetings
-
--- what the servers that take part in the next meetings did is told, on each block that wasn't poked
-pub record MetTold (s : Session) (run : Run) (d : Deeds) : Type 0 where
-  pub streams : (i : ℕ) → i < track_count s → takes_part s run i ≡ true → is_tame (told_at run i).stream ≡ true → d.streams i ≡ server_list (told_at run i).stream
-  pub commands : (i : ℕ) → i < track_count s → is_tame (told_at run i).commands ≡ true → d.commands i ≡ server_list (told_at run i).commands
-
--- the list of a server that met its client
-abbrev pub met_deed : BlockTold → List ServerEvent → List ServerEvent
-met_deed b deed = deed ++ server.Learn (length (client_list b)) ∷ []
-
--- the lists of all servers, once those that take part have met their clients
-abbrev pub deeds_met : Session → Run → Deeds → Deeds
-deeds_met s run d = record {
-  streams = λ i. if takes_part s run i then met_deed (told_at run i).stream (d.streams i) else d.streams i;
-  commands = λ i. met_deed (told_at run i).commands (d.commands i);
-}
 
 -- ## A turn of the normal mixer
 

@@ -1,5 +1,5 @@
 -- When the lists that the ends of a session keep are those of the run that its journal tells.
-use Rattle.std.specs.Prelude.{◌≡◌, ℕ, ◌<◌, true, slice_get, Some}
+use Rattle.std.specs.Prelude.{◌≡◌, ℕ, true, slice_get, Some}
 use Rattle.af_normal.specs.LegalTurned.{hand_events}
 use Rattle.af_normal.specs.Mixing.{stream_at}
 use Rattle.af_normal.specs.State.{NormalState}
@@ -7,12 +7,9 @@ use Rattle.af_party.specs.Parties.{PartyState}
 use Rattle.af_runs.specs.Blocks.{BlockTold, hand_list, is_tame, server_list}
 use Rattle.af_runs.specs.KeptLists.{KeepsClient, KeepsMutator, KeepsPipe, KeepsReader}
 use Rattle.af_runs.specs.Runs.{Run, TrackTold, told_at}
-use Rattle.af_runs.specs.Sessions.{Session, track_count}
 use Rattle.af_server.specs.Order.{ServerState}
 use Rattle.af_session.specs.Ends.{EndsState}
-use Rattle.af_session.specs.Together.{SessionState}
 use Rattle.af_told_law.specs.Alike.{TellAlike}
-use Rattle.af_told_law.specs.Deeds.{Deeds, SawOwnOf}
 
 -- A server's proxy: its list is the one told if no poke was told, and else one that tells the same; the words that it took are those told on any block
 pub record KeepsProxy (b : BlockTold) (t : ServerState) : Type 0 where
@@ -34,8 +31,3 @@ pub record KeepsLists (run : Run) (ends : EndsState) : Type 0 where
   pub mutator : KeepsMutator run ends.normal.mutator.past.events
   pub reader : KeepsReader run ends.normal.reader.events
   pub pipe : KeepsPipe run ends.normal.pipe.pass.part.events ends.normal.pipe.pass.part.frames
-
--- of each stream proxy that is home, and of each command proxy, each front seen is the server's own if no poke was told
-pub record SawAtHome (s : Session) (run : Run) (d : Deeds) (x : SessionState) : Type 0 where
-  pub streams : (i : ℕ) (t : ServerState) → i < track_count s → stream_at x.normal.streams i ≡ Some t → is_tame (told_at run i).stream ≡ true → SawOwnOf (told_at run i).stream.shape (d.streams i)
-  pub commands : (i : ℕ) → i < track_count s → is_tame (told_at run i).commands ≡ true → SawOwnOf (told_at run i).commands.shape (d.commands i)

@@ -2,14 +2,11 @@ pub mod Leads
 pub mod Alike
 pub mod Deeds
 pub mod Tells
-pub mod Own
 pub mod Sizes
 pub mod Marked
 pub mod Between
 pub mod QueueTurned
 pub mod MixLaws
-pub mod Places
-pub mod Outsides
 pub mod Comers
 pub mod NormalLaws
 pub mod KeptEnds

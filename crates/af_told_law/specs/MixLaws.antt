@@ -1,6 +1,5 @@
 -- What the law of a mix says.
 use Rattle.std.specs.Prelude.{List, None, [], drop, false, length, take, ℕ, ◌++◌, ◌∷◌, ◌≡◌}
-use Rattle.af_base.specs.declared.event.ClientEvent.{ClientEvent}
 use Rattle.af_base.specs.declared.frame.Frame.{Frame}
 use Rattle.af_base.specs.declared.log.Cycle.{Cycle}
 use Rattle.af_base.specs.declared.log.CycleEntry.{CycleEntry}
@@ -8,12 +7,10 @@ use Rattle.af_fast.specs.Mixer.{MixerState, is_over}
 use Rattle.af_fast.specs.Mixing.{MixesOnce}
 use Rattle.af_link.specs.declared.links.Links.{Links}
 use Rattle.af_model.specs.Journals.{EntrySeen, taken_by}
-use Rattle.af_model.specs.Order.{ones, twos}
 use Rattle.af_runs.specs.Blocks.{Marks}
 use Rattle.af_runs.specs.Rounds.{LegalEntry}
 use Rattle.af_runs.specs.Runs.{Run, with_mix}
 use Rattle.af_runs.specs.Sessions.{Session}
-use Rattle.af_runs.specs.Told.{PipeTold}
 use Rattle.af_told_law.specs.Leads.{LeadAway}
 use Rattle.af_session.specs.Together.{AreTogether, SessionState}
 use Rattle.af_told_law.specs.Tells.{Leaves, Tells, held_slot}
@@ -45,10 +42,3 @@ MixIsTold links s run d x g out answer out' =
 -- the run tells each mix of a session
 abbrev pub MixesAreTold : Session → Type 0
 MixesAreTold s = (links : Links) (run : Run) (d : Deeds) (x : SessionState) (g : MixerState) (out : List Frame) (answer : Cycle) (out' : List Frame) → MixIsTold links s run d x g out answer out'
-
--- the ends of the pipe did and have what is told
-pub record PipeTells (p : PipeTold) (puts : List ClientEvent) (put : List ℕ) (f : MixerState) : Type 0 where
-  pub puts_are : puts ≡ ones p.told
-  pub put_is : put ≡ p.put
-  pub takes : f.pipe.pass.part.events ≡ twos p.told
-  pub taken : f.pipe.pass.part.frames ≡ p.taken

@@ -1,7 +1,7 @@
 -- What is told of each track after a turn of the normal mixer.
-use Rattle.std.specs.Prelude.{Some, [], false, length, slice_get, ℕ, ◌++◌, ◌<◌, ◌∷◌, ◌≡◌}
+use Rattle.std.specs.Prelude.{List, Some, [], false, length, slice_get, ℕ, ◌++◌, ◌<◌, ◌∷◌, ◌≡◌}
 use Rattle.af_base.specs.Turn.{Turn, turn_of}
-use Rattle.af_life.specs.Kept.{Outside, Setup, pipe_size}
+use Rattle.af_life.specs.Kept.{Outside, Setup, is_home, pipe_size, slot_number, track_at}
 use Rattle.af_normal.specs.LegalTurned.{IsLegal}
 use Rattle.af_normal.specs.State.{NormalState, kept_of, setup_of as mixer_setup}
 use Rattle.af_normal.specs.TurnMade.{TurnMade, answer_of}
@@ -15,7 +15,6 @@ use Rattle.af_told_law.specs.Between.{StandsBefore}
 use Rattle.af_told_law.specs.QueueTurned.{QueueKnown}
 use Rattle.af_told_law.specs.Comers.{ComersTell}
 use Rattle.af_told_law.specs.Tells.{Tells, TellsCommands, TellsStream}
-use Rattle.af_told_law.specs.Outsides.{FindsBlocks, HeardAlike}
 use Rattle.af_life.specs.Edits.{after_ack}
 use Rattle.af_model.specs.StateQueue.{HasStateHistory}
 use Rattle.af_life.specs.TurnEvents.{front_by_room}
@@ -25,6 +24,19 @@ use Rattle.af_model.specs.declared.states.MutatorEvent.TheVariants as mutator
 use Rattle.af_base.specs.declared.event.ClientEvent.TheVariants as client
 use Rattle.af_model.specs.declared.states.ObserverEvent.TheVariants as observer
 use Rattle.af_told_law.specs.Deeds.{Deeds, TrackDid, deeds_turned}
+use Rattle.af_base.specs.declared.report.Report.{Report}
+use Rattle.af_life.specs.declared.kept.TrackKept.{TrackKept}
+use Rattle.af_model.specs.Reports.{report_at}
+
+-- the reports are of one cycle, and say the same of the slot of each track whose proxy isn't home
+pub record HeardAlike (tracks : List TrackKept) (r q : Report) : Type 0 where
+  pub cycle : r.cycle ≡ q.cycle
+  pub slots : (i : ℕ) → i < length tracks → is_home (track_at tracks i).holder ≡ false → report_at r.slots (slot_number (track_at tracks i)) ≡ report_at q.slots (slot_number (track_at tracks i))
+
+-- a turn finds the two blocks of each track as a run tells them
+pub record FindsBlocks (run : Run) (f : TurnFound) : Type 0 where
+  pub streams : (i : ℕ) → f.streams i ≡ (told_at run i).stream
+  pub commands : (i : ℕ) → f.commands i ≡ (told_at run i).commands
 
 -- what a turn that found this makes of a track
 abbrev pub track_turned : Session → TurnFound → Run → Turn → ℕ → TrackTold

@@ -1,8 +1,7 @@
 -- What ties the parties of a session to the run that their journal tells so far.
 use Rattle.std.specs.Prelude.{◌≡◌, ℕ, ◌<◌, ◌&&◌, nat_lt, not, is_some, Bool, true, false, List, [], ◌∷◌, length, map, slice_get, Option, Some, None}
 use Rattle.af_base.specs.declared.report.Report.{Report}
-use Rattle.af_base.specs.declared.state.FastState.{FastState}
-use Rattle.af_base.specs.Log.{entry_slot, frames_taken, slots}
+use Rattle.af_base.specs.Log.{slots}
 use Rattle.af_fast.specs.Mixer.{MixerState}
 use Rattle.af_life.specs.Kept.{is_home, pipe_size, slot_number, track_at}
 use Rattle.af_model.specs.declared.newest.WriterEvent.{WriterEvent}
@@ -19,13 +18,11 @@ use Rattle.af_normal.specs.Mixing.{stream_at}
 use Rattle.af_normal.specs.State.{NormalState, kept_of, setup_of as mixer_setup}
 use Rattle.af_party.specs.Parties.{PartyState, track_of}
 use Rattle.af_runs.specs.Blocks.{BlockTold, hand_list}
-use Rattle.af_model.specs.Journals.{EntrySeen, slot_frames}
 use Rattle.af_runs.specs.KeptLists.{KeepsMutator, KeepsPipe, KeepsReader, marked}
 use Rattle.af_runs.specs.Runs.{Run, TrackTold, fast_ended, frames_before, last_report, sides_of, told_at}
 use Rattle.af_runs.specs.Sessions.{Session, cycle_frames, setup_of, track_count}
 use Rattle.af_runs.specs.Told.{Item, state_at}
 use Rattle.af_server.specs.Order.{ServerState}
-use Rattle.af_stateq.specs.Ends.{acknowledged, took}
 use Rattle.af_stateq.specs.Laws.{pushed_states}
 use Rattle.af_stateq.specs.Mutates.{at}
 use Rattle.af_engine.specs.Met.{item_at, slot_for}
@@ -173,13 +170,4 @@ pub record Leaves (s : Session) (before : Deeds) (after : Run) (y : SessionState
 
 -- ## Polls
 
--- the poll that led from f to g found the last state that was pushed: a new one is that, with the items that went with it, and the mutator hasn't seen it acknowledged
-pub record FindsLast (m : NormalState) (f g : MixerState) : Type 0 where
-  pub number : g.observer.past.number ≡ m.mutator.past.number
-  pub new : (x : FastState) (came back : List (Option ServerState)) → g.observer.past ≡ acknowledged back (took x came f.observer.past) → (x ≡ m.mutator.past.last) × (came ≡ items_sent m) × ((mutated_by m).clear ≡ false)
-
 -- ## Mixes
-
--- what the looks of a mix from f to g took is what the run tells of the entry
-pub record SawTold (f g : MixerState) (e : EntrySeen) : Type 0 where
-  pub frames : (k : ℕ) → k < slots → frames_taken g.log.frames (entry_slot e.entry k) ≡ slot_frames e k

@@ -1,27 +1,9 @@
 -- When a turn of the normal mixer reads the same of two outsides.
 use Rattle.std.specs.Prelude.{List, [], false, is_some, length, true, ℕ, ◌++◌, ◌<◌, ◌∷◌, ◌≡◌, ◌⊎◌}
-use Rattle.af_base.specs.declared.log.SlotEntry.{SlotEntry}
-use Rattle.af_base.specs.declared.turn.CommandLook.{CommandLook}
-use Rattle.af_base.specs.Turn.{TakeSeen, Turn}
-use Rattle.af_life.specs.declared.kept.TrackKept.{TrackKept}
-use Rattle.af_life.specs.Edits.{after_ack}
-use Rattle.af_life.specs.Kept.{Learnt, NormalKept, Outside, Setup, asked, is_home, slot_number, track_at, track_in}
-use Rattle.af_life.specs.Looks.{LegalLooks, command_events, did}
-use Rattle.af_life.specs.TurnEvents.{takes_from}
-use Rattle.af_model.specs.Cycles.{Listed, LooksBy, kept}
-use Rattle.af_runs.specs.Blocks.{listed}
-use Rattle.af_runs.specs.Found.{TurnFound, take_front}
-use Rattle.af_runs.specs.Fronts.{front_of, fronts_by, lawful_front}
+use Rattle.af_told_law.proofs.Common.{CommandLook, Learnt, LegalLooks, Listed, LooksBy, NormalKept, Outside, Setup, SlotEntry, TakeSeen, TrackKept, Turn, TurnFound, after_ack, asked, command_events, did, front_of, fronts_by, is_home, kept, lawful_front, listed, take_front, takes_from, track_at, track_in}
 use Rattle.af_told_law.specs.Alike.{TellAlike}
-use Rattle.af_base.specs.declared.report.Report.{Report}
-use Rattle.af_model.specs.Reports.{report_at}
-use Rattle.af_runs.specs.Runs.{Run, told_at}
 use Rattle.af_told_law.specs.Deeds.{SawOwnOf, commands_by, stream_by}
-
--- the reports are of one cycle, and say the same of the slot of each track whose proxy isn't home
-pub record HeardAlike (tracks : List TrackKept) (r q : Report) : Type 0 where
-  pub cycle : r.cycle ≡ q.cycle
-  pub slots : (i : ℕ) → i < length tracks → is_home (track_at tracks i).holder ≡ false → report_at r.slots (slot_number (track_at tracks i)) ≡ report_at q.slots (slot_number (track_at tracks i))
+use Rattle.af_told_law.specs.NormalLaws.{HeardAlike}
 
 -- each stream proxy that is home knows the same by both
 abbrev pub OwnAlike : List TrackKept → Learnt → Learnt → Type 0
@@ -74,11 +56,6 @@ SawStream c m e o i = SawOwnOf (o.streams i).shape ((o.streams i).events ++ stre
 
 abbrev pub SawCommands : Setup → NormalKept → Turn → Outside → ℕ → Type 0
 SawCommands c m e o i = SawOwnOf (o.commands i).shape ((o.commands i).events ++ commands_by c m o e i)
-
--- a turn finds the two blocks of each track as a run tells them
-pub record FindsBlocks (run : Run) (f : TurnFound) : Type 0 where
-  pub streams : (i : ℕ) → f.streams i ≡ (told_at run i).stream
-  pub commands : (i : ℕ) → f.commands i ≡ (told_at run i).commands
 
 -- What a turn saw is what was found: what the report says of the stream proxies that aren't home once the acknowledgement was seen, and what the lists of those that are, and those of the command proxies, tell. If each front that a server saw up to the end of the turn is its own, the lists and the fronts are the same
 pub record IsFound (c : Setup) (m : NormalKept) (e : Turn) (o : Outside) (f : TurnFound) : Type 0 where

@@ -1,26 +1,8 @@
 -- Where each stream proxy lies after a turn of the normal mixer, from where it came, and what it did and took.
+use Rattle.af_told_law.specs.Tells.{mutated_by}
+use Rattle.af_told_law.proofs.Common.{Adds, IsLegal, Links, NormalState, Outside, ServerEvent, ServerState, Turn, TurnMade, after_edits, answer_of, at, carries, going, home_stream, in_hand, in_queue, is_home, is_out, is_pushed, items_of, kept_of, learnt, marked, must_enter, mutator_list, packed_word, served_tracks, setup_of, slot_number, slots, stream_at, takes_from, track_at, turn_of}
 use Rattle.std.specs.Prelude.{◌≡◌, ◌⊎◌, ℕ, ◌+◌, ◌<◌, ◌&&◌, not, if◌then◌else◌, true, false, List, [], ◌++◌, map, flat_map, Option, Some, None, is_some}
-use Rattle.af_base.specs.declared.event.ServerEvent.{ServerEvent}
-use Rattle.af_base.specs.Log.{slots}
-use Rattle.af_base.specs.Sample.{packed_word}
-use Rattle.af_base.specs.Turn.{Turn, turn_of}
-use Rattle.af_life.specs.Edits.{must_enter}
-use Rattle.af_life.specs.Heard.{learnt}
-use Rattle.af_life.specs.Kept.{Outside, is_home, slot_number, track_at}
-use Rattle.af_life.specs.Turn.{after_edits}
-use Rattle.af_life.specs.TurnEvents.{going, mutator_list, takes_from}
-use Rattle.af_link.specs.declared.links.Links.{Links}
-use Rattle.af_model.specs.StateQueue.{MutatorPoint, carries, mutated}
-use Rattle.af_normal.specs.LegalTurned.{IsLegal, home_stream, in_hand, in_queue, served_tracks}
-use Rattle.af_normal.specs.Mixing.{stream_at}
 use Rattle.af_normal.specs.Order.{IsInOrder}
-use Rattle.af_normal.specs.Serving.{Adds}
-use Rattle.af_normal.specs.State.{NormalState, kept_of, setup_of}
-use Rattle.af_normal.specs.TurnMade.{TurnMade, answer_of}
-use Rattle.af_runs.specs.KeptLists.{marked}
-use Rattle.af_runs.specs.Told.{is_pushed, items_of}
-use Rattle.af_server.specs.Order.{ServerState}
-use Rattle.af_stateq.specs.Mutates.{at, is_out}
 use Rattle.af_told_law.specs.Deeds.{stream_by}
 
 -- the words that a turn took of the track i, as its stream block has them taken
@@ -70,10 +52,6 @@ pub record StaysAway (o : Outside) (back again sent : List (Option ServerState))
       → ((at x.mutator.returned (slot_in y i) ≡ Some t) × (at back (slot_in y i) ≡ None)) ⊎ (at x.mutator.pending (slot_in y i) ≡ Some t) ⊎ (at back (slot_in y i) ≡ Some t) ⊎ (at again (slot_in y i) ≡ Some t)
   pub went : is_pushed e.push ≡ true → (t : ServerState) → at sent (slot_in y i) ≡ Some t → at x.mutator.pending (slot_in y i) ≡ Some t
 
--- the point that the mutator's list leaves
-abbrev pub told_by : NormalState → MutatorPoint ServerState
-told_by m = mutated m.mutator.past.first m.mutator.past.events
-
 -- The pushes after a turn with these items: a push clears what was seen acknowledged, and a look only sets it
 pub record QueueGoes (o : Outside) (sent : List (Option ServerState)) (x y : NormalState) (e : Turn) : Type 0 where
   pub first : y.mutator.past.first ≡ x.mutator.past.first
@@ -81,9 +59,9 @@ pub record QueueGoes (o : Outside) (sent : List (Option ServerState)) (x y : Nor
   pub none : is_pushed e.push ≡ true → (k : ℕ) → at y.mutator.pending k ≡ None
   pub shown : is_pushed e.push ≡ true → (y.mutator.past.number ≡ x.mutator.past.number + 1) × (y.mutator.past.last ≡ (after_edits (setup_of x) (learnt o) e (kept_of x)).draft) × (y.mutator.past.before ≡ x.mutator.past.last) × (y.mutator.past.clear ≡ false)
   pub still : is_pushed e.push ≡ false → (y.mutator.past.number ≡ x.mutator.past.number) × (y.mutator.past.last ≡ x.mutator.past.last) × (y.mutator.past.before ≡ x.mutator.past.before) × (y.mutator.past.clear ≡ e.ack)
-  pub sent_items : is_pushed e.push ≡ true → ((told_by y).items ≡ sent) × ((told_by y).clear ≡ false)
-  pub same_items : is_pushed e.push ≡ false → (told_by y).items ≡ (told_by x).items
-  pub same_clear : is_pushed e.push ≡ false → (told_by x).pushed ≡ x.mutator.past.number → (told_by y).clear ≡ e.ack
+  pub sent_items : is_pushed e.push ≡ true → ((mutated_by y).items ≡ sent) × ((mutated_by y).clear ≡ false)
+  pub same_items : is_pushed e.push ≡ false → (mutated_by y).items ≡ (mutated_by x).items
+  pub same_clear : is_pushed e.push ≡ false → (mutated_by x).pushed ≡ x.mutator.past.number → (mutated_by y).clear ≡ e.ack
 
 -- The slots of a turn: what was in hand, or came by its look, the last state doesn't carry, and what waited had none on its way back. If the last state wasn't seen acknowledged, the one before it doesn't carry what waited or was in hand, and only the look of a push brings items of its slots. If the last state was seen acknowledged, an item that is out and on no state is in hand
 pub record SlotsStand (back again : List (Option ServerState)) (x : NormalState) (e : Turn) : Type 0 where
@@ -120,9 +98,9 @@ pub record StreamsStay (o : Outside) (x y : NormalState) (e : Turn) : Type 0 whe
   pub returned : (k : ℕ) (t : ServerState) → k < slots → at y.mutator.returned k ≡ Some t → (at x.mutator.returned k ≡ Some t) ⊎ (at back k ≡ Some t)
   pub first : y.mutator.past.first ≡ x.mutator.past.first
   pub still : (y.mutator.past.number ≡ x.mutator.past.number) × (y.mutator.past.last ≡ x.mutator.past.last) × (y.mutator.past.before ≡ x.mutator.past.before)
-  pub same_items : (told_by y).items ≡ (told_by x).items
+  pub same_items : (mutated_by y).items ≡ (mutated_by x).items
   pub marks_back : x.ended ≡ false → marked back ≡ (if not x.mutator.past.clear then items_of x.mutator.past.before x.mutator.past.last else [])
-  pub clear : x.ended ≡ false → (y.mutator.past.clear ≡ true) × ((told_by x).pushed ≡ x.mutator.past.number → (told_by y).clear ≡ true)
+  pub clear : x.ended ≡ false → (y.mutator.past.clear ≡ true) × ((mutated_by x).pushed ≡ x.mutator.past.number → (mutated_by y).clear ≡ true)
 
 -- a legal turn leaves each stream proxy where StreamsGo says, or, if it ended, where StreamsStay says
 abbrev pub TurnLeavesStreams : Links → Outside → NormalState → NormalState → Type 0
