@@ -1,5 +1,5 @@
 -- How far a render has come: before its first turn, after one more, and at the end.
-use Rattle.std.proofs.Common.{◌≡◌, ◌+◌, ◌<◌, ◌≤◌, ◌++◌, ℕ, List, [], ◌∷◌, length, take, get_or, append_assoc, refl, sym, ap, subst, ◌∙◌, arith}
+use Rattle.std.proofs.Common.{◌≡◌, ◌+◌, ◌<◌, ◌++◌, ℕ, List, [], ◌∷◌, length, take, get_or, append_assoc, refl, sym, ap, subst, ◌∙◌, arith}
 use Rattle.std.proofs.lemmas.List.Elements.{All-get_or}
 use Rattle.af_rendering.proofs.Common.{All, AreTogether, CarriesOn, FollowsRound, Given, HasPlacesAt, HasRoundRoom, IsNewSession, IsReady, IsReadyOn, IsRound, IsTally, IsTurn, KeepsSound, NotesFrames, NotesNumbers, Rig, Room, RoundNoted, ScriptData, SessionState, SharedState, Tallied, TrackSpec, TurnSpec, given_of, nothing_shown, pcm_of, round_told}
 use Rattle.af_rendering.specs.Rendered.{HaveFiles, Rendered, Runs}
@@ -8,7 +8,6 @@ use Rattle.af_rendering.specs.Stages.{HasRoomToWait}
 use Rattle.af_rendering.proofs.FirstRound.{empty_first, frames_first, ready_first, rendered}
 use Rattle.af_rendering.proofs.NotedRounds.{round_noted, turn_stays}
 use Rattle.af_rendering.proofs.RoundSounds.{round_sounds}
-use Rattle.af_rendering.proofs.RunMore.{run_more}
 use Rattle.af_rendering.proofs.ShownWhole.{places_first}
 use Rattle.af_rendering.proofs.TurnsPlayed.{so_far_more, so_far_none}
 

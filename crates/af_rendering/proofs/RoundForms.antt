@@ -1,6 +1,6 @@
 -- The rounds that are noted, and the log of their cycles, keep the form of a journal.
 use Rattle.std.proofs.Common.{◌≡◌, ℕ, ◌+◌, Bool, true, false, MatchBool, MatchOption, All, List, [], ◌∷◌, ◌++◌, length, refl, sym, ap, subst, ◌∙◌, arith}
-use Rattle.af_rendering.proofs.Common.{All-append, All-cons, All-nil, AreWhole, ClientCall, CycleEntry, Frame, Given, IsFastTurn, IsFrame, IsReady, IsRound, LegalTurn, Links, Logged, NormalTurned, NotesFrames, RoundNoted, RoundsNoted, SessionState, Turn, TurnSpec, Turns, client_round, cycles_more, cycles_of, fast_round, kept_of, length-replicate, length-set, no_calls, none_whole, normal_round, setup_of, still_round}
+use Rattle.af_rendering.proofs.Common.{All-append, All-cons, All-nil, AreWhole, ClientCall, CycleEntry, Frame, Given, IsFastTurn, IsFrame, IsReady, IsRound, LegalTurn, Links, Logged, NormalTurned, NotesFrames, RoundNoted, RoundsNoted, SessionState, Turn, TurnSpec, Turns, client_round, cycles_more, fast_round, kept_of, length-replicate, length-set, no_calls, none_whole, normal_round, setup_of, still_round}
 use Rattle.af_life.proofs.TurnForms.{turn_form}
 use Rattle.af_model.specs.JournalForm.{IsTurn}
 use Rattle.af_script.specs.declared.op.TurnSpec.TheVariants as spec

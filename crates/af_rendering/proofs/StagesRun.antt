@@ -1,6 +1,6 @@
 -- What a stage comes to once its rounds were played.
 use Rattle.std.proofs.Common.{◌≡◌, ◌*◌, ◌<◌, ◌≤◌, ◌^◌, ℕ, List, [], length, refl, sym, ap, subst, ◌∙◌, arith}
-use Rattle.af_rendering.proofs.Common.{All, FitsEntry, Frame, Given, HasRanges, IsFrame, IsReady, IsReadyOn, IsTally, Links, Rig, Roomy, RoundsNoted, ScriptData, SessionState, TrackSpec, TurnSpec, given_of, journal_of, take_all}
+use Rattle.af_rendering.proofs.Common.{All, FitsEntry, Given, HasRanges, IsFrame, IsReady, IsReadyOn, IsTally, Links, Rig, Roomy, RoundsNoted, ScriptData, SessionState, TrackSpec, TurnSpec, given_of, journal_of, take_all}
 use Rattle.af_model.proofs.NumbersFit.{ranges_dealt}
 use Rattle.af_rendering.specs.declared.staging.Stage.{Stage}
 use Rattle.af_rendering.specs.Rendered.{Runs}

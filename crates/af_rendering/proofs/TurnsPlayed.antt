@@ -1,7 +1,6 @@
 -- The turns that were played so far. Their rounds are seen in the parties before and after each, and stand nowhere else.
-use Rattle.std.proofs.Common.{◌≡◌, ℕ, ◌+◌, ◌<◌, ◌^◌, All, List, [], ◌∷◌, ◌++◌, length, take, get_or, refl, arith}
-use Rattle.af_rendering.proofs.Common.{All-append, All-cons, All-nil, FastState, FitsEntry, FollowsRound, Given, IsFrame, IsReady, IsRound, IsTally, Links, NotesFrames, NotesNumbers, RoundNoted, RoundsNoted, SessionState, Tallied, TurnSpec, nothing_shown, pcm_of, round_told, shown_at}
-use Rattle.af_rendering.specs.Rendered.{Runs}
+use Rattle.std.proofs.Common.{◌≡◌, ℕ, ◌+◌, ◌<◌, List, [], ◌∷◌, ◌++◌, length, take, get_or}
+use Rattle.af_rendering.proofs.Common.{All-append, All-cons, All-nil, FollowsRound, Given, IsReady, IsRound, IsTally, Links, NotesFrames, NotesNumbers, RoundNoted, SessionState, Tallied, TurnSpec, nothing_shown, pcm_of, round_told}
 use Rattle.af_rendering.specs.SoFar.{SoFar, noted_of}
 use Rattle.af_rendering.proofs.RoundForms.{noted_none, noted_round}
 use Rattle.af_rendering.proofs.RunMore.{run_more, run_none}

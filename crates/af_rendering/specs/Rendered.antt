@@ -1,24 +1,21 @@
 -- What the turns of a script come to, and what they leave in a file.
-use Rattle.std.specs.Prelude.{◌≡◌, ◌⊎◌, ℕ, ◌<◌, ◌≤◌, ◌++◌, List, [], Some, length, take, Result, OnOk, OnErr}
+use Rattle.std.specs.Prelude.{◌≡◌, ◌⊎◌, ℕ, ◌<◌, ◌≤◌, ◌++◌, List, Some, length, take, Result, OnOk, OnErr}
 use Rattle.af_base.specs.declared.frame.Frame.{Frame}
-use Rattle.af_base.specs.declared.state.FastState.{FastState}
 use Rattle.af_io.specs.Files.{Files, SameFiles, SetsFile, LeavesFront}
 use Rattle.af_io.specs.declared.store.StoreError.{StoreError}
-use Rattle.af_model.specs.JournalForm.{IsJournal, IsWhole}
-use Rattle.af_model.specs.Journals.{JournalData, RoundNoted, RoundsNoted, journal_of}
+use Rattle.af_model.specs.JournalForm.{IsJournal}
+use Rattle.af_model.specs.Journals.{JournalData, RoundNoted, journal_of}
 use Rattle.af_script.specs.Data.{ScriptData}
 use Rattle.af_script.specs.declared.op.Op.{Op}
 use Rattle.af_script.specs.declared.op.TurnSpec.{TurnSpec}
 use Rattle.af_session.specs.Ends.{EndsState, ends_from}
 use Rattle.af_session.specs.NewSession.{IsNewSession}
-use Rattle.af_session.specs.Rounds.{Given, IsRound, IsTurnRun, ops_at, file_at, round_told}
-use Rattle.af_session.specs.declared.room.Room.{Room}
+use Rattle.af_session.specs.Rounds.{Given, IsTurnRun, ops_at, file_at}
 use Rattle.af_engine.specs.Shares.{SharedState}
-use Rattle.af_session.specs.Shown.{shown_at, shown_by, summary_told}
+use Rattle.af_session.specs.Shown.{shown_by, summary_told}
 use Rattle.af_tally.specs.declared.summary.Summary.{Summary}
 use Rattle.af_tally.specs.Sound.{pcm_of}
 use Rattle.af_tally.specs.Steps.{AreFew}
-use Rattle.af_tally.specs.Tallies.{IsTally, Tallied}
 use Rattle.af_session.specs.Together.{SessionState}
 use Rattle.af_party.specs.Works.{frames_to_come}
 

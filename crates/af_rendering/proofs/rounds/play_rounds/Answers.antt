@@ -1,7 +1,6 @@
-use Rattle.std.proofs.Common.{◌≡◌, ◌∙◌, ℕ, [], ap, refl, sym, arith}
+use Rattle.std.proofs.Common.{◌≡◌, ◌∙◌, ℕ, [], ap, sym, arith}
 use Rattle.std.proofs.lemmas.Result.{on_ok_weaker}
 use Rattle.af_rendering.proofs.Common.{LeavesFront, Roomy, pcm_of}
-use Rattle.af_rendering.specs.Rendered.{HoldsBut}
 use Rattle.af_session.proofs.RoomsKept.{kept_on}
 use Rattle.af_rendering.proofs.Outgoing.{on_err, stays_at}
 use Rattle.af_rendering.proofs.Waiting.{all_out, front_held, wait_on}

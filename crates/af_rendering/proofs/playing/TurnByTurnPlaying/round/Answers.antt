@@ -1,4 +1,4 @@
-use Rattle.std.proofs.Common.{◌≡◌, ◌+◌, ◌<◌, ◌≤◌, ◌++◌, ℕ, length, ap, refl, arith}
+use Rattle.std.proofs.Common.{◌+◌, ◌<◌, ◌≤◌, ℕ, length, ap, refl, arith}
 use Rattle.af_rendering.proofs.Common.{Roomy, SessionState}
 use Rattle.af_rendering.specs.SoFar.{HasPlayedTo}
 use Rattle.af_rendering.proofs.ComeSoFar.{come, is_turn, keeps_sound, played_more, room_behind, still_turn}

@@ -1,6 +1,6 @@
-use Rattle.std.proofs.Common.{◌≡◌, ◌*◌, ◌<◌, ◌≤◌, ◌^◌, ℕ, [], Some, OnErr, OnOk, inr, length, refl, ap, sym, subst, ◌∙◌, arith}
+use Rattle.std.proofs.Common.{◌≡◌, ◌≤◌, ℕ, [], Some, OnErr, OnOk, inr, length, ap, subst, ◌∙◌}
 use Rattle.std.proofs.lemmas.Result.{on_err_weaker, on_ok_weaker}
-use Rattle.af_rendering.proofs.Common.{All, FitsEntry, IsFrame, IsScript, IsTally, LeavesFront, Logged, Rig, Roomy, RoundsNoted, ScriptData, SessionState, SetsFile, nothing_shown, pcm_of}
+use Rattle.af_rendering.proofs.Common.{All, FitsEntry, IsFrame, LeavesFront, Logged, Rig, RoundsNoted, SessionState, SetsFile, pcm_of}
 use Rattle.af_rendering.specs.Rendered.{LeavesSound}
 use Rattle.af_rendering.specs.SoFar.{HasPlayedTo, noted_of}
 use Rattle.af_rendering.specs.Stages.{HasRendered}
