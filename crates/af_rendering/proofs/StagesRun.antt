@@ -1,6 +1,6 @@
 -- What a stage comes to once its rounds were played.
-use Rattle.std.proofs.Common.{◌≡◌, ◌*◌, ◌<◌, ◌≤◌, ◌^◌, ℕ, List, [], length, refl, sym, ap, subst, ◌∙◌, arith}
-use Rattle.af_rendering.proofs.Common.{All, FitsEntry, Given, HasRanges, IsFrame, IsReady, IsReadyOn, IsTally, Links, Rig, Roomy, RoundsNoted, ScriptData, SessionState, TrackSpec, TurnSpec, given_of, journal_of, take_all}
+use Rattle.std.proofs.Common.{◌≡◌, ◌*◌, ◌<◌, ◌≤◌, ◌^◌, ℕ, List, [], length, refl, sym, ap, subst, ◌∙◌, arith, ◌++◌, append-nil}
+use Rattle.af_rendering.proofs.Common.{All, FitsEntry, Given, HasRanges, IsFrame, IsReady, IsReadyOn, IsTally, Links, Rig, Roomy, RoundsNoted, ScriptData, SessionState, TrackSpec, TurnSpec, given_of, journal_of, take_all, pcm_of}
 use Rattle.af_model.proofs.NumbersFit.{ranges_dealt}
 use Rattle.af_rendering.specs.declared.staging.Stage.{Stage}
 use Rattle.af_rendering.specs.Rendered.{Runs}
@@ -18,7 +18,7 @@ new_room script s new =
     let none : s.room.bytes.items ≡ [] = ap (λ (b : Roomy ℕ). b.items) new.room.bytes in
     let few = new.script_is.frames.1 in
     let empty : length s.room.bytes.items ≡ 0 = ap (λ (xs : List ℕ). length xs) none in
-    (record { small = omega (arith, same, few); buffer = new.room.buffer ∙ sym same; bytes = omega (arith, same, wide); waits = omega (arith, empty) }, none)
+    (record { small = omega (arith, same, few); buffer = new.room.buffer ∙ sym same; bytes = omega (arith, same, wide); waits = omega (arith, empty); ends = (pcm_of s.parties.fast.frames s.parties.fast.log, ap (λ (xs : List ℕ). pcm_of s.parties.fast.frames s.parties.fast.log ++ xs) none ∙ append-nil (pcm_of s.parties.fast.frames s.parties.fast.log)) }, none)
 
 module _ (script : ScriptData) (rig : Rig) (here : rig.tracks.now ≡ script.tracks) (s : Stage) (room : s.room.released ≡ record { items = []; room = length script.tracks }) where
   -- rounds of their form, after which the parties are ready for another, were noted

@@ -1,5 +1,5 @@
 -- Bytes that wait to go out behind what a file has of a sound.
-use Rattle.std.proofs.Common.{◌≡◌, ℕ, ◌++◌, List, [], Some, length, take, inr, sym, ap, subst, ◌∙◌, append-nil}
+use Rattle.std.proofs.Common.{◌≡◌, ◌⊎◌, ⊎_elim, ℕ, ◌++◌, List, [], Some, length, take, inr, sym, ap, subst, ◌∙◌, append-nil}
 use Rattle.af_rendering.proofs.Common.{Files, KeepsSound, LeavesFront, MixerState, SetsFile, pcm_of}
 use Rattle.std.proofs.Math.Seq.{take-append_seam}
 use Rattle.af_rendering.specs.Rendered.{HoldsBut}
@@ -26,3 +26,11 @@ pub wait_on : (base files : Files) (name : List ℕ) (m m' : MixerState) (frames
 wait_on base files name m m' frames same bytes bytes' keeps held =
     let was : HoldsBut bytes base name (pcm_of m.frames m.log) files = subst (λ (n : ℕ). HoldsBut bytes base name (pcm_of n m.log) files) (sym same) held in
     subst (λ (n : ℕ). HoldsBut bytes' base name (pcm_of n m'.log) files) same (was.0, keeps was.0 was.1, was.2)
+
+-- bytes that wait, or none, are the end of a sound that ended with them
+pub ends_on : (m m' : MixerState) → m'.frames ≡ m.frames → (bytes bytes' rest : List ℕ) → KeepsSound m m' bytes bytes' → (rest ≡ bytes') ⊎ (rest ≡ []) → (front : List ℕ) × (front ++ bytes ≡ pcm_of m.frames m.log)
+    → (front : List ℕ) × (front ++ rest ≡ pcm_of m'.frames m'.log)
+ends_on m m' same bytes bytes' rest keeps sent (front, whole) = subst (λ (n : ℕ). (xs : List ℕ) × (xs ++ rest ≡ pcm_of n m'.log)) (sym same) (⊎_elim
+    (λ (is : rest ≡ bytes'). (front, ap (λ (xs : List ℕ). front ++ xs) is ∙ keeps front whole))
+    (λ (none : rest ≡ []). (pcm_of m.frames m'.log, ap (λ (xs : List ℕ). pcm_of m.frames m'.log ++ xs) none ∙ append-nil (pcm_of m.frames m'.log)))
+    sent)

@@ -1,5 +1,5 @@
 -- What a session is played on: before its first turn, and once its rounds were played.
-use Rattle.std.specs.Prelude.{◌≡◌, ◌*◌, ◌<◌, ◌≤◌, ◌^◌, All, List, [], length}
+use Rattle.std.specs.Prelude.{◌≡◌, ◌*◌, ◌<◌, ◌≤◌, ◌^◌, ◌++◌, ℕ, All, List, [], length}
 use Rattle.af_base.specs.declared.frame.Frame.{Frame}
 use Rattle.af_link.specs.declared.links.Links.{Links}
 use Rattle.af_model.specs.JournalForm.{IsJournal, IsWhole}
@@ -15,15 +15,17 @@ use Rattle.af_session.specs.declared.room.Room.{Room}
 use Rattle.af_engine.specs.Shares.{AreLinksOf}
 use Rattle.af_session.specs.Shown.{shown_in}
 use Rattle.af_session.specs.Together.{AreTogether, SessionState}
+use Rattle.af_tally.specs.Sound.{pcm_of}
 use Rattle.af_tally.specs.Summaries.{Shown}
 use Rattle.af_tally.specs.Tallies.{IsTally}
 
--- the buffer has the frames of a cycle of these parties, which are few, there is room for the bytes of four rounds, and those of three at most wait in it
+-- The buffer has the frames of a cycle of these parties, which are few. There is room for the bytes of four rounds; those of three at most wait in it, and they are the end of the sound
 pub record HasRoomToWait (s : SessionState) (room : Room) : Type 0 where
   pub small : s.fast.frames < 2 ^ 32
   pub buffer : length room.buffer.items ≡ s.fast.frames
   pub bytes : 256 * s.fast.frames ≤ room.bytes.room
   pub waits : length room.bytes.items ≤ 192 * s.fast.frames
+  pub ends : (front : List ℕ) × (front ++ room.bytes.items ≡ pcm_of s.fast.frames s.fast.log)
 
 -- a new stage: the new parties of an accepted script with what they share, with new room
 pub record IsNewStage (script : ScriptData) (s : Stage) : Type 0 where

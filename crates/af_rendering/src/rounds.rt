@@ -1,5 +1,5 @@
 //! The rounds of a session from first to last, and the file of what they mixed: the one loop of renders and plays.
-ghost use Rattle.std.specs.Prelude.{◌≡◌, ◌<◌, ◌≤◌, ◌++◌, ℕ, true, false, [], Some, length, List, OnErr, OnOk};
+ghost use Rattle.std.specs.Prelude.{◌≡◌, ◌⊎◌, ◌<◌, ◌≤◌, ◌++◌, ℕ, true, false, [], Some, length, List, OnErr, OnOk};
 ghost use Rattle.af_io.specs.Causes.{HasCause};
 ghost use Rattle.af_io.specs.Files.{LeavesFront, SetsFile};
 ghost use Rattle.af_rendering.specs.Rendered.{Extends, Sends};
@@ -97,6 +97,7 @@ fn send_beyond<S: Store>(
 ) -> Result<(), StoreError>
     ensures few { length bytes.new.items ≤ most }
     ensures room { bytes.new.room ≡ bytes.old.room }
+    ensures all { (bytes.new.items ≡ bytes.old.items) ⊎ (bytes.new.items ≡ []) }
     ensures sent { S.told store.old → Sends result name.now bytes.old.items bytes.new.items (S.files store.old) (S.files store.new) }
     ensures tells { S.told store.old → S.told store.new }
     ensures cause { HasCause (S.faults store.old) (S.faults store.new) result }

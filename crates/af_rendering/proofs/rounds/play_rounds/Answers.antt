@@ -3,7 +3,7 @@ use Rattle.std.proofs.lemmas.Result.{on_ok_weaker}
 use Rattle.af_rendering.proofs.Common.{LeavesFront, Roomy, pcm_of}
 use Rattle.af_session.proofs.RoomsKept.{kept_on}
 use Rattle.af_rendering.proofs.Outgoing.{on_err, stays_at}
-use Rattle.af_rendering.proofs.Waiting.{all_out, front_held, wait_on}
+use Rattle.af_rendering.proofs.Waiting.{all_out, ends_on, front_held, wait_on}
 use Rattle.af_rendering.proofs.rounds.play_rounds.Goals as goal
 
 -- the bytes of the round wait behind those that waited
@@ -38,6 +38,7 @@ loop-notes-preserved g c =
         small = omega (arith, inv.room.small, did.sizes.0);
         buffer = did.kept.buffer ∙ inv.room.buffer ∙ sym did.sizes.0;
         bytes = omega (arith, sent.room, did.kept.bytes, inv.room.bytes, did.sizes.0);
+        ends = ends_on c.loop-notes.parties.fast c.round.new.parties.fast did.sizes.0 c.loop-notes.room.bytes.items c.round.new.room.bytes.items c.send_beyond.new.bytes.items did.sound sent.all inv.room.ends;
         waits = omega (arith, sent.few, c.len-most.ensures, did.kept.buffer, inv.room.buffer, did.sizes.0);
       };
       frames = did.sizes.0 ∙ inv.frames;
