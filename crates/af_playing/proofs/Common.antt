@@ -1,6 +1,8 @@
 -- The names of other crates that the proofs of this one cite, passed on from one place. Declares nothing.
 pub use Rattle.af_base.proofs.Basics.{no, on_ok, or_true, zip_long}
 pub use Rattle.af_base.specs.Log.{Logged}
+pub use Rattle.af_base.specs.Roomy.{Roomy}
+pub use Rattle.af_base.specs.Sample.{IsFrame}
 pub use Rattle.af_base.specs.Turn.{Turn, turn_of}
 pub use Rattle.af_base.specs.declared.event.ClientCall.{ClientCall}
 pub use Rattle.af_base.specs.declared.frame.Frame.{Frame}
@@ -27,6 +29,7 @@ pub use Rattle.af_link.specs.declared.links.Links.{Links}
 pub use Rattle.af_model.specs.Cycles.{cold_done, cycle_by, cycle_of, has_exit, is_mixed, state_of}
 pub use Rattle.af_model.specs.JournalForm.{IsJournal, IsTurn, IsWhole}
 pub use Rattle.af_model.specs.Journals.{EntrySeen, JournalData, RoundNoted, RoundSeen, RoundsNoted, cycles_of, entries_of, entries_seen, journal_of, rounds_seen}
+pub use Rattle.af_model.specs.Numbers.{HasRanges}
 pub use Rattle.af_model.specs.StateQueue.{HasStateHistory}
 pub use Rattle.af_model.specs.declared.states.MutatorEvent.{MutatorEvent}
 pub use Rattle.af_model.specs.declared.states.ObserverEvent.{ObserverEvent}
@@ -41,7 +44,8 @@ pub use Rattle.af_rendering.proofs.Outgoing.{on_err, stays_at}
 pub use Rattle.af_told_law.proofs.NormalSteps.{all_push}
 pub use Rattle.af_told_law.proofs.Quiet.{push_clean, turn_quiet}
 pub use Rattle.af_told_law.specs.Between.{IsQuiet}
-pub use Rattle.af_rendering.proofs.RoundForms.{AreNoted, Notes, noted_more, noted_none}
+pub use Rattle.af_rendering.proofs.RoundForms.{Notes, noted_more, noted_none}
+pub use Rattle.af_rendering.specs.SoFar.{AreNoted}
 pub use Rattle.af_rendering.proofs.ShownWhole.{AreInStep, in_step_met, in_step_new, places_first, released_few, steps_told, tally_first, tally_pushed}
 pub use Rattle.af_rendering.specs.declared.rendering.Played.{Played}
 pub use Rattle.af_rendering.specs.declared.staging.Stage.{Stage}
@@ -62,7 +66,7 @@ pub use Rattle.af_session.specs.Noted.{HasFrames, NotesFrames}
 pub use Rattle.af_session.specs.Rooms.{CarriesOn, HasPlacesAt, HasRoundRoom, IsReadyOn, KeepsRoom, KeepsSizes, KeepsSound, given_of}
 pub use Rattle.af_session.specs.Rounds.{Given, IsReady, end_party, with_ends}
 pub use Rattle.af_session.specs.Shown.{shown_at, shown_in, summary_told}
-pub use Rattle.af_session.specs.Together.{SessionState}
+pub use Rattle.af_session.specs.Together.{AreTogether, SessionState}
 pub use Rattle.af_session.specs.declared.rig.Rig.{Rig}
 pub use Rattle.af_session.specs.declared.room.Room.{Room}
 pub use Rattle.af_side_by_side.specs.Alone.{CyclesOn, CyclesOnce, FastTurned, most_cycles}

@@ -1,6 +1,6 @@
 -- A play of a script with enough cycles has ended once its log is full, so it is never cut off.
 use Rattle.std.proofs.Common.{◌≡◌, true, false, true≢false, List, length, refl, sym, ◌∙◌, arith}
-use Rattle.af_playing.proofs.Common.{EndsState, Frame, IsScript, JournalData, ScriptData, Stage, true_from_ne_false}
+use Rattle.af_playing.proofs.Common.{EndsState, Frame, IsScript, JournalData, RoundsNoted, ScriptData, Stage, true_from_ne_false}
 use Rattle.af_enough.specs.Enough.{HasEnoughCycles}
 use Rattle.af_play_law.proofs.InTime.{plays_end}
 use Rattle.af_playing.specs.InTime.{EndsInTime}
@@ -15,8 +15,8 @@ module _ (script : ScriptData) (files : List (List Frame)) where
       plays_end script files p.shared p.start t (seen script files rounds t p) is enough p.new (rounds_told script files rounds t p) filled
 
   -- a stage that was played to its end, or to the end of the log, has ended
-  pub played_out : (s : Stage) → HasPlayed script files s → IsScript script → HasEnoughCycles script → all_ended s.parties ≡ true
-  played_out s have is enough = true_from_ne_false (all_ended s.parties) (λ goes. true≢false (sym (ends_in_time is enough s.rounds.rounds s.parties have.all (have.over goes)) ∙ goes))
+  pub played_out : (rounds : RoundsNoted) (s : Stage) → HasPlayed script files rounds s → IsScript script → HasEnoughCycles script → all_ended s.parties ≡ true
+  played_out rounds s have is enough = true_from_ne_false (all_ended s.parties) (λ goes. true≢false (sym (ends_in_time is enough rounds.rounds s.parties have.all (have.over goes)) ∙ goes))
 
   -- no run is handed back as cut off
   pub never_cut_off : IsScript script → HasEnoughCycles script → (j : JournalData) (e : EndsState) → HandsBackRun false script files j e → ⊥

@@ -60,12 +60,9 @@ promises_kept script files is law j legal = record {
   emptied = pipe-is-emptied script files j is legal;
 }
 
-module _ (script : ScriptData) (files : List (List Frame)) (s : Stage) (r : Result Played PlayFault) (have : HasPlayed script files s) (a : Answers script files s r) where
+module _ (script : ScriptData) (files : List (List Frame)) (noted : RoundsNoted) (s : Stage) (r : Result Played PlayFault) (have : HasPlayed script files noted s) (a : Answers script files noted s r) where
   abbrev t : SessionState
   t = s.parties
-
-  abbrev noted : RoundsNoted
-  noted = s.rounds
 
   abbrev j : JournalData
   j = journal_of noted t.fast.log

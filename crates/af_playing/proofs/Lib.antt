@@ -10,7 +10,6 @@ pub mod RunOfAll
 pub mod RoundsOfAll
 pub mod GoingOn
 pub mod PlayAnswers
-pub mod StagesPlayed
 pub mod RoundsPlayed
 pub mod InTime
 pub mod KeptPlays

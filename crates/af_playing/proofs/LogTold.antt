@@ -1,6 +1,7 @@
 -- A log by all rounds is the log of their journal.
-use Rattle.std.proofs.Common.{◌≡◌, ℕ, ◌+◌, ◌≤◌, All, Bool, true, false, Option, Some, None, List, [], ◌∷◌, length, map, take, drop, refl, sym, ap, ◌∙◌, arith}
+use Rattle.std.proofs.Common.{◌≡◌, ℕ, zero, suc, ◌+◌, ◌≤◌, All, Bool, true, false, Option, Some, None, List, [], ◌∷◌, length, map, take, drop, refl, sym, ap, ◌∙◌, arith}
 use Rattle.af_playing.proofs.Common.{EntrySeen, IsWhole, JournalData, Logged, LoggingState, LogsPlay, MixerState, RoundNoted, RoundSeen, RoundsNoted, TellsLog, count_refused, cycles_of, dealt, entries_of, entries_seen, flat_map-cons, journal_of, length-drop, length-take, most_cycles, notes_kept, rounds_seen, same_entries}
+use Rattle.af_playing.specs.PlayedStages.{kept_in}
 use Rattle.std.specs.List.{flat_map}
 use Rattle.std.proofs.lemmas.List.Elements.{All-head, All-tail}
 use Rattle.af_model.proofs.Basics.{same_length}
@@ -66,3 +67,8 @@ tells_log (Some room) frames m noted j l h whole frames_are few journal =
       kept = x.kept_is;
       space = omega (arith, items, left, count, space, few);
     }
+
+-- a log with room for some notes is kept
+pub kept_is : (room : ℕ) → 1 ≤ room → kept_in room ≡ Some room
+kept_is zero some = absurd (omega (arith, some))
+kept_is (suc n) some = refl

@@ -108,7 +108,7 @@ impl<R: Threads + Sync, G: Gate> Playing for AllAtOnce<'_, '_, '_, '_, '_, '_, '
 
     ghost left = { λ p noted t. p.piece.now.script.now.cycles - length noted.rounds.rounds };
 
-    fn goes_on(&self, _noted: &Noted, parties: &Parties) -> bool {
+    fn goes_on(&self, noted: &Noted, parties: &Parties) -> bool {
         is_going(parties, self.piece.script.cycles())
     }
 

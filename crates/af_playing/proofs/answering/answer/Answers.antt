@@ -9,7 +9,7 @@ returns c =
     record {
       ended = search rules;
       journal = search rules;
-      enough = (λ is enough. absurd (true≢false (sym (played_out c.args.script.now c.args.files.now c.args.stage c.requires.played is enough) ∙ ended)));
+      enough = (λ is enough. absurd (true≢false (sym (played_out c.args.script.now c.args.files.now c.args.rounds c.args.stage c.requires.played is enough) ∙ ended)));
       ends = search rules;
       summary = search rules;
       legal = search rules;

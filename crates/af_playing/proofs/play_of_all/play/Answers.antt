@@ -1,4 +1,5 @@
-use Rattle.std.proofs.Common.{None, inl, refl}
+use Rattle.std.proofs.Common.{None, inl, refl, subst, sym}
+use Rattle.af_playing.proofs.Common.{BeginsLog}
 use Rattle.af_playing.specs.declared.answering.PlayFault.TheVariants as fault
 use Rattle.af_playing.proofs.InTime.{ends_in_time}
 use Rattle.af_playing.proofs.KeptPlays.{files_none, keeps_none, steps_none}
@@ -6,7 +7,9 @@ use Rattle.af_playing.proofs.PlayCauses.{cause_memory}
 use Rattle.af_playing.proofs.play_of_all.play.Goals as goal
 
 pub play_with-requires-clause-log : goal.play_with-requires-clause-log
-play_with-requires-clause-log g c = λ κs lives. (None, c.in_ok-logging.ensures c.args.piece.now.script.now.cycles)
+play_with-requires-clause-log g c = λ κs lives.
+    let cycles = c.args.piece.now.script.now.cycles in
+    subst (BeginsLog None cycles) (sym c.of-noted.ensures.log) (c.in_ok-logging.ensures cycles)
 
 -- an allocation for what stands in place of a log was refused
 pub returns-in_err-logging : goal.returns-in_err-logging

@@ -1,5 +1,7 @@
-use Rattle.std.proofs.Common.{ℕ, Some, inl, refl, subst}
-use Rattle.af_playing.proofs.Common.{BeginsLog, HasLogOf, Played, on_err, on_ok}
+use Rattle.std.proofs.Common.{ℕ, Option, inl, refl, subst, sym}
+use Rattle.af_playing.proofs.Common.{BeginsLog, HasLogOf, LoggingState, Played, on_err, on_ok}
+use Rattle.af_playing.specs.PlayKept.{TellsLogOf}
+use Rattle.af_playing.proofs.LogTold.{kept_is}
 use Rattle.std.proofs.lemmas.Result.{IfOk-from_err}
 use Rattle.af_playing.specs.declared.answering.PlayFault.TheVariants as fault
 use Rattle.af_playing.proofs.InTime.{ends_in_time}
@@ -10,16 +12,17 @@ use Rattle.af_playing.proofs.play_of_all.play_logged.Goals as goal
 -- the log that was made begins with the script's cycles
 pub play_with-played-requires-clause-log : goal.play_with-played-requires-clause-log
 play_with-played-requires-clause-log g c = λ κs lives.
-    let begins = subst (λ (n : ℕ). BeginsLog (Some c.args.piece.now.room) n c.in_ok-logging.logging) c.cycles.ensures.value c.in_ok-logging.ensures in
-    (Some c.args.piece.now.room, begins)
+    let room = c.args.piece.now.room in
+    subst (λ (x : Option ℕ × ℕ × LoggingState). BeginsLog x.0 x.1 x.2) (λ k. (sym (kept_is room c.requires.room.0) k, c.cycles.ensures.value k, sym c.of-noted.ensures.log k)) c.in_ok-logging.ensures
 
 pub tell-told-requires : goal.tell-told-requires
 tell-told-requires g c =
-    let begins = subst (λ (n : ℕ). BeginsLog (Some c.args.piece.now.room) n c.in_ok-logging.logging) c.cycles.ensures.value c.in_ok-logging.ensures in
-    let logging = c.play_with-played.new.logging in
+    let logging = c.play_with-played.new.noted.logging in
+    let frames = c.args.piece.now.script.now.frames in
+    let room = c.args.piece.now.room in
+    let log = subst (λ (k : Option ℕ). TellsLogOf k frames c.play_with-played.result logging) (kept_is room c.requires.room.0) c.play_with-played.ensures.log in
     record {
-      told = on_ok (λ (p : Played). HasLogOf c.args.piece.now.script.now.frames c.args.piece.now.room p.journal logging) (λ (p : Played). (frames : ℕ) × (room : ℕ) × HasLogOf frames room p.journal logging) c.play_with-played.result
-          (λ p log. (c.args.piece.now.script.now.frames, c.args.piece.now.room, log)) (c.play_with-played.ensures.log (Some c.args.piece.now.room) begins);
+      told = on_ok (λ (p : Played). HasLogOf frames room p.journal logging) (λ (p : Played). (frames : ℕ) × (room : ℕ) × HasLogOf frames room p.journal logging) c.play_with-played.result (λ p log. (frames, room, log)) log;
     }
 
 -- an allocation for the log was refused
@@ -47,7 +50,7 @@ returns g c =
     let told = c.tell-told in
     let played = c.play_with-played in
     let done = c.hand_on in
-    let begins = subst (λ (n : ℕ). BeginsLog (Some c.args.piece.now.room) n c.in_ok-logging.logging) c.cycles.ensures.value c.in_ok-logging.ensures in
+    let log = subst (λ (k : Option ℕ). TellsLogOf k p.script.now.frames played.result played.new.noted.logging) (kept_is c.args.piece.now.room c.requires.room.0) played.ensures.log in
     let handed : IsHandedOn played.result done.result = handed_by told.result played.result done.result done.ensures.same done.ensures.memory told.ensures.memory in
     let keeps = keeps_on p.script.now p.files.now played.result done.result handed played.ensures.keeps in
     record {
@@ -59,7 +62,7 @@ returns g c =
       tells = played.ensures.tells;
       cause = cause_on p.script.now p.files.now played.result done.result (g.S.Store.faults c.args.store.now) (g.S.Store.faults played.new.store) handed played.ensures.cause;
       log = (
-        told_by told.result played.result done.result done.ensures.same done.ensures.memory _ (told.ensures.log p.script.now.frames c.args.piece.now.room (played.ensures.log (Some c.args.piece.now.room) begins)),
+        told_by told.result played.result done.result done.ensures.same done.ensures.memory _ (told.ensures.log p.script.now.frames c.args.piece.now.room log),
         kept_by told.result played.result done.result done.ensures.same done.ensures.memory _ told.ensures.none told.ensures.unchanged,
       );
       steps = steps_on p.script.now p.files.now played.result done.result played.new.steps.items handed played.ensures.steps;

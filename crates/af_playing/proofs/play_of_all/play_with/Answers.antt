@@ -2,6 +2,7 @@ use Rattle.std.proofs.Common.{◌≡◌, Err, inl, refl, ap}
 use Rattle.af_playing.proofs.Common.{MixerState, Played, TellsLog, journal_of, on_ok}
 use Rattle.af_playing.specs.declared.answering.PlayFault.TheVariants as fault
 use Rattle.af_playing.specs.PlayedRuns.{fault_of}
+use Rattle.af_playing.specs.PlayedStages.{kept_in}
 use Rattle.af_playing.proofs.KeptPlays.{cause_kept, files_kept, files_none, keeps, keeps_none, steps_kept, steps_none}
 use Rattle.af_playing.proofs.LogTold.{tells_log}
 use Rattle.af_playing.proofs.PlayCauses.{cause_memory, cause_store}
@@ -52,35 +53,36 @@ pub returns-in-Ok-clause-keeps : goal.returns-in-Ok-clause-keeps
 returns-in-Ok-clause-keeps g c =
     let script = c.args.piece.now.script.now in
     let files = c.args.piece.now.files.now in
-    keeps script files c.play_to_end.new.stage c.answer.result c.in-Ok.ensures.played c.answer.ensures c.in_ok-stage.ensures.script_is (λ journal legal. c.drained_tracks_have_reached_their_stop.ensures script files journal c.in_ok-stage.ensures.script_is legal)
+    keeps script files c.play_to_end.new.noted.rounds c.play_to_end.new.stage c.answer.result c.in-Ok.ensures.played c.answer.ensures c.in_ok-stage.ensures.script_is (λ journal legal. c.drained_tracks_have_reached_their_stop.ensures script files journal c.in_ok-stage.ensures.script_is legal)
 
 pub returns-in-Ok-clause-files : goal.returns-in-Ok-clause-files
 returns-in-Ok-clause-files g c = λ told.
-    files_kept c.args.piece.now.script.now c.args.piece.now.files.now c.play_to_end.new.stage c.answer.result c.in-Ok.ensures.played c.answer.ensures c.args.piece.now.name.now (g.S.Store.files c.args.store.now) (g.S.Store.files c.play_to_end.new.store)
+    files_kept c.args.piece.now.script.now c.args.piece.now.files.now c.play_to_end.new.noted.rounds c.play_to_end.new.stage c.answer.result c.in-Ok.ensures.played c.answer.ensures c.args.piece.now.name.now (g.S.Store.files c.args.store.now) (g.S.Store.files c.play_to_end.new.store)
     (c.in-Ok.ensures.written told)
 
 pub returns-in-Ok-clause-cause : goal.returns-in-Ok-clause-cause
 returns-in-Ok-clause-cause g c =
-    cause_kept c.args.piece.now.script.now c.args.piece.now.files.now c.play_to_end.new.stage c.answer.result c.in-Ok.ensures.played c.answer.ensures c.in-Ok.field-0 (g.S.Store.faults c.args.store.now) (g.S.Store.faults c.play_to_end.new.store)
+    cause_kept c.args.piece.now.script.now c.args.piece.now.files.now c.play_to_end.new.noted.rounds c.play_to_end.new.stage c.answer.result c.in-Ok.ensures.played c.answer.ensures c.in-Ok.field-0 (g.S.Store.faults c.args.store.now) (g.S.Store.faults c.play_to_end.new.store)
     c.in-Ok.ensures.cause
 
 pub returns-in-Ok-clause-steps : goal.returns-in-Ok-clause-steps
 returns-in-Ok-clause-steps g c =
-    steps_kept c.args.piece.now.script.now c.args.piece.now.files.now c.play_to_end.new.stage c.answer.result c.in-Ok.ensures.played c.answer.ensures c.steps.result.items c.steps.ensures
+    steps_kept c.args.piece.now.script.now c.args.piece.now.files.now c.play_to_end.new.noted.rounds c.play_to_end.new.stage c.answer.result c.in-Ok.ensures.played c.answer.ensures c.steps.result.items c.steps.ensures
 
 -- ## The log
 
 pub play_to_end-requires-clause-log : goal.play_to_end-requires-clause-log
 play_to_end-requires-clause-log g c = λ κs lives.
     let fast = c.in_ok-stage.ensures.new.fast in
-    (c.requires.log.0, c.requires.log.1 c.in_ok-stage.stage.parties.fast (ap (λ (m : MixerState). m.cycles) fast) (ap (λ (m : MixerState). m.log.entries) fast))
+    c.requires.log c.in_ok-stage.stage.parties.fast (ap (λ (m : MixerState). m.cycles) fast) (ap (λ (m : MixerState). m.log.entries) fast)
 
 pub returns-in-Ok-clause-log : goal.returns-in-Ok-clause-log
-returns-in-Ok-clause-log g c = λ kept begins.
+returns-in-Ok-clause-log g c =
     let s = c.play_to_end.new.stage in
+    let noted = c.play_to_end.new.noted in
     let have = c.in-Ok.ensures.played in
-    let fast = c.in_ok-stage.ensures.new.fast in
-    let first = begins c.in_ok-stage.stage.parties.fast (ap (λ (m : MixerState). m.cycles) fast) (ap (λ (m : MixerState). m.log.entries) fast) in
-    on_ok (λ (p : Played). p.journal ≡ journal_of s.rounds s.parties.fast.log) (λ (p : Played). TellsLog kept c.args.piece.now.script.now.frames p.journal c.play_to_end.new.logging) c.answer.result
-    (λ p journal. tells_log kept c.args.piece.now.script.now.frames s.parties.fast s.rounds p.journal c.play_to_end.new.logging (c.in-Ok.ensures.log kept first) have.noted.whole have.frames have.entries journal)
+    let kept = kept_in c.args.piece.now.room in
+    let frames = c.args.piece.now.script.now.frames in
+    on_ok (λ (p : Played). p.journal ≡ journal_of noted.rounds s.parties.fast.log) (λ (p : Played). TellsLog kept frames p.journal noted.logging) c.answer.result
+    (λ p journal. tells_log kept frames s.parties.fast noted.rounds p.journal noted.logging c.in-Ok.ensures.log have.noted.whole have.frames have.entries journal)
     c.answer.ensures.journal
