@@ -92,9 +92,9 @@ enum Left {
 
 use Left::{Part, Unmade, Whole};
 
-/// One track that plays a hundred frames to their end, with more cycles than it can take.
-const HUNDRED: &str =
-    "version = 1\nframes = 2\nnormal = 1\ncycles = 8000\n[[track]]\nkind = \"fast\"\nframes = 100\nchannels = 2\nfile = \"in.pcm\"\nops = [\"open\", \"start\", \"write 100\", \"stop\", \"drain\", \"remove\"]\n";
+/// One track that plays a thousand frames to their end, with more cycles than it can take.
+const THOUSAND: &str =
+    "version = 1\nframes = 2\nnormal = 1\ncycles = 20000\n[[track]]\nkind = \"fast\"\nframes = 100\nchannels = 2\nfile = \"in.pcm\"\nops = [\"open\", \"start\", \"write 1000\", \"stop\", \"drain\", \"remove\"]\n";
 
 const PLAY: &str = "play one.toml out.pcm out.txt";
 
@@ -138,9 +138,9 @@ fn judged_left(found: Option<&[u8]>, is_whole: bool) -> Left {
     }
 }
 
-/// Whether a sound has each of a hundred frames once and in order.
+/// Whether a sound has each of a thousand frames once and in order.
 fn is_heard(alloc: Global, sound: &[u8]) -> Result<bool, Fail> {
-    let file = numbered(alloc, 400)?;
+    let file = numbered(alloc, 4000)?;
     let played = loud(alloc, &file)?;
     let heard = loud(alloc, sound)?;
     Ok(heard.as_slice() == played.as_slice())
@@ -179,7 +179,7 @@ fn lefts<R: Threads + Sync + Abort>(
 /// The files of a play, of which a call fails.
 fn one_fails<'a>(alloc: Global, name: &'a str, failing: u64) -> Result<OneFails<'a>, Fail> {
     Ok(OneFails {
-        files: given(alloc, 0, HUNDRED, 400)?,
+        files: given(alloc, 0, THOUSAND, 4000)?,
         name,
         failing,
         made: 0,

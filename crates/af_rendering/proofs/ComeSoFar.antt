@@ -1,9 +1,12 @@
 -- How far a render has come: before its first turn, after one more, and at the end.
-use Rattle.std.proofs.Common.{◌≡◌, ◌+◌, ◌<◌, ◌++◌, ℕ, List, [], ◌∷◌, length, take, get_or, append_assoc, refl, sym, ap, subst, ◌∙◌, arith}
+use Rattle.std.proofs.Common.{◌≡◌, ◌+◌, ◌-◌, ◌<◌, ◌++◌, ℕ, List, [], ◌∷◌, length, take, get_or, append_assoc, Result, Ok, Err, OnOk, refl, sym, ap, subst, ◌∙◌, arith}
 use Rattle.std.proofs.lemmas.List.Elements.{All-get_or}
 use Rattle.af_rendering.proofs.Common.{All, AreTogether, CarriesOn, FollowsRound, Given, HasPlacesAt, HasRoundRoom, IsNewSession, IsReady, IsReadyOn, IsRound, IsTally, IsTurn, KeepsSound, NotesFrames, NotesNumbers, Rig, Room, RoundNoted, ScriptData, SessionState, SharedState, Tallied, TrackSpec, TurnSpec, given_of, nothing_shown, pcm_of, round_told}
 use Rattle.af_rendering.specs.Rendered.{HaveFiles, Rendered, Runs}
-use Rattle.af_rendering.specs.SoFar.{HasPlayedTo, SoFar}
+use Rattle.af_base.specs.declared.want.Memory.{Memory}
+use Rattle.std.specs.Prelude.{IsOk}
+use Rattle.af_rendering.specs.Rounds.{RoundPlayed}
+use Rattle.af_rendering.specs.SoFar.{HasPlayedTo, SoFar, TurnPlayed}
 use Rattle.af_rendering.specs.Stages.{HasRoomToWait}
 use Rattle.af_rendering.proofs.FirstRound.{empty_first, frames_first, ready_first, rendered}
 use Rattle.af_rendering.proofs.NotedRounds.{round_noted, turn_stays}
@@ -102,3 +105,16 @@ module _ (script : ScriptData) (rig : Rig) (n : ℕ) (s : SessionState) (tally :
               places = on.places n (subst (HasPlacesAt n s) (sym same) far.places);
               frames = on.sizes.0 ∙ far.frames;
             }
+
+-- a turn that was played is a round of a render
+pub round_of_turn : (script : ScriptData) (rig : Rig) (n n' : ℕ) (s s' : SessionState) (r r' : Room) (answer : Result (Unit {0}) Memory) → n < length script.turns → OnOk answer (TurnPlayed script rig n n' s s' r r') × IsOk answer
+    → RoundPlayed (HasPlayedTo script rig n' s') ((m : ℕ) × Rendered script rig.files.now (take m script.turns) s') (length script.turns - n' < length script.turns - n) s s' r r' answer
+round_of_turn script rig n n' s s' r r' (Ok x) more (turn, ok) = record {
+  between = turn.far;
+  fewer = (let one = turn.one in omega (arith, one, more));
+  came = (n', come script rig n' s' r'.tally turn.far);
+  sizes = turn.sizes;
+  room = turn.room;
+  sound = turn.sound;
+}
+round_of_turn script rig n n' s s' r r' (Err e) more (turn, ok) = absurd (let e : ⊥ = cc in e)

@@ -1,5 +1,5 @@
 -- How far a render has come, and the form of what was noted so far.
-use Rattle.std.specs.Prelude.{◌≡◌, ◌≤◌, ℕ, All, List, MatchOption, length, take}
+use Rattle.std.specs.Prelude.{◌≡◌, ◌+◌, ◌≤◌, ℕ, All, List, MatchOption, length, take}
 use Rattle.af_base.specs.Log.{Logged}
 use Rattle.af_base.specs.Sample.{IsFrame}
 use Rattle.af_base.specs.declared.state.FastState.{FastState}
@@ -12,11 +12,12 @@ use Rattle.af_script.specs.Data.{ScriptData}
 use Rattle.af_script.specs.declared.op.TurnSpec.{TurnSpec}
 use Rattle.af_session.specs.NewSession.{IsNewSession}
 use Rattle.af_session.specs.Noted.{NotesNumbers}
-use Rattle.af_session.specs.Rooms.{HasPlacesAt, IsReadyOn, given_of}
+use Rattle.af_session.specs.Rooms.{HasPlacesAt, IsReadyOn, KeepsRoom, KeepsSizes, KeepsSound, given_of}
 use Rattle.af_session.specs.Rounds.{Given}
 use Rattle.af_session.specs.Shown.{shown_at}
 use Rattle.af_session.specs.Together.{SessionState}
 use Rattle.af_session.specs.declared.rig.Rig.{Rig}
+use Rattle.af_session.specs.declared.room.Room.{Room}
 use Rattle.af_tally.specs.Tallies.{IsTally, Tallied}
 
 -- ## Form
@@ -58,3 +59,11 @@ pub record HasPlayedTo (script : ScriptData) (rig : Rig) (n : ℕ) (t : SessionS
   pub ready : IsReadyOn rig n t
   pub places : HasPlacesAt n t tally
   pub frames : t.fast.frames ≡ start.fast.frames
+
+-- the next turn was played from s to s', and its bytes wait behind those that waited
+pub record TurnPlayed (script : ScriptData) (rig : Rig) (n n' : ℕ) (s s' : SessionState) (r r' : Room) : Type 0 where
+  pub one : n' ≡ n + 1
+  pub far : HasPlayedTo script rig n' s' r'.tally
+  pub sizes : KeepsSizes s.fast s'.fast
+  pub room : KeepsRoom r r'
+  pub sound : KeepsSound s.fast s'.fast r.bytes.items r'.bytes.items

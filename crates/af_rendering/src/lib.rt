@@ -9,5 +9,5 @@ mod staging;
 
 pub use given_files::have_files;
 pub use rendering::{Ends, Outcome, Played, hand_over, render};
-pub use rounds::{Playing, play_rounds};
+pub use rounds::{Playing, Target, play_rounds};
 pub use staging::Stage;

@@ -1,14 +1,13 @@
 //! The rounds of a render: one turn of the script in each.
-ghost use Rattle.std.specs.Prelude.{◌≡◌, ◌-◌, ◌<◌, ◌≤◌, ℕ, List, length, take};
+ghost use Rattle.std.specs.Prelude.{◌≡◌, ◌<◌, ℕ, List, length};
 ghost use Rattle.af_model.specs.Journals.{RoundNoted};
 ghost use Rattle.af_script.specs.Form.{IsTurn};
-ghost use Rattle.af_rendering.specs.Rendered.{Rendered};
-ghost use Rattle.af_rendering.specs.SoFar.{HasPlayedTo};
+ghost use Rattle.af_rendering.specs.SoFar.{HasPlayedTo, TurnPlayed};
+ghost use Rattle.af_rendering.specs.Stages.{HasRoomToWait};
 ghost use Rattle.af_session.specs.Rooms.{CarriesOn, HasAdded, HasRoundRoom, IsReadyOn, given_of};
 ghost use Rattle.af_session.specs.Rounds.{IsRound, round_told};
 
-use crate::rounds::Playing;
-use af_base::{Memory, Steps};
+use af_base::Steps;
 use af_script::{Script, TurnSpec};
 use af_session::{Parties, Rig, Room};
 use std::marker::Brand;
@@ -33,40 +32,21 @@ fn round_in<L: Ledger>(
     parties.round(rig, turn, room, &mut steps);
 }
 
-/// The turns of a script, one after the other, each as a round after which all meet. What is kept of them is how many were played; their rounds stand nowhere.
-#[derive(Drop)]
-pub(crate) struct TurnByTurn<'a, 'b, 'c, 'd> {
-    pub(crate) script: &'a Script,
-    pub(crate) rig: Rig<'b, 'c, 'd>,
-}
-
-impl Playing for TurnByTurn<'_, '_, '_, '_> {
-    type Notes = usize;
-
-    ghost between = { λ p n t tally. HasPlayedTo p.script.now p.rig n t tally };
-
-    ghost came = { λ p t. (n : ℕ) × Rendered p.script.now p.rig.files.now (take n p.script.now.turns) t };
-
-    ghost going = { λ p n t. n < length p.script.now.turns };
-
-    ghost over = { λ p n t. length p.script.now.turns ≤ n };
-
-    ghost left = { λ p n t. length p.script.now.turns - n };
-
-    fn goes_on(&self, played: &usize, _parties: &Parties) -> bool {
-        *played < self.script.turns().len()
-    }
-
-    fn round(
-        &self,
-        played: &mut usize,
-        parties: &mut Parties,
-        room: &mut Room,
-    ) -> Result<(), Memory> {
-        let turn = self.script.turns()[*played];
-        round_in::<Brand>(Blank::new(1), parties, &self.rig, turn, room);
-        parties.know_round(turn);
-        *played += 1;
-        Ok(())
-    }
+/// Plays the next turn of a script, as a round after which all meet. What is kept is how many turns were played; their rounds stand nowhere.
+pub(crate) fn play_turn(
+    script: &Script,
+    rig: &Rig<'_, '_, '_>,
+    played: &mut usize,
+    parties: &mut Parties,
+    room: &mut Room,
+)
+    requires far { HasPlayedTo script.now rig.now played.old parties.old room.old.tally }
+    requires more { played.old < length script.now.turns }
+    requires room { HasRoomToWait parties.old room.old }
+    ensures { TurnPlayed script.now rig.now played.old played.new parties.old parties.new room.old room.new }
+{
+    let turn = script.turns()[*played];
+    round_in::<Brand>(Blank::new(1), parties, rig, turn, room);
+    parties.know_round(turn);
+    *played += 1;
 }

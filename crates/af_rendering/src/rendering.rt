@@ -1,5 +1,5 @@
 //! A script's turns from first to last, one after the other.
-ghost use Rattle.std.specs.Prelude.{◌^◌, All, ◌≡◌, ◌<◌, ◌≤◌, ℕ, [], Some, length, IfOk, OnOk, OnErr};
+ghost use Rattle.std.specs.Prelude.{◌^◌, All, ◌≡◌, ◌<◌, ◌≤◌, ℕ, true, false, [], Some, length, IfOk, IsOk, OnOk, OnErr};
 ghost use Rattle.af_io.specs.Causes.{HasCause};
 ghost use Rattle.af_io.specs.Files.{SetsFile};
 ghost use Rattle.af_model.specs.JournalForm.{IsJournal, IsWhole};
@@ -8,26 +8,27 @@ ghost use Rattle.af_script.specs.Data.{ScriptData};
 ghost use Rattle.af_session.specs.Ends.{command_proxy, ends_from, stream_proxy};
 ghost use Rattle.af_rendering.specs.Rendered.{ComesTo, HaveFiles, LeavesSound};
 ghost use Rattle.af_session.specs.Shown.{released_by, summary_told};
-ghost use Rattle.af_rendering.specs.Stages.{HasRendered, IsNewStage, IsNoted};
+ghost use Rattle.af_rendering.specs.SoFar.{HasPlayedTo, TurnPlayed};
+ghost use Rattle.af_rendering.specs.Stages.{HasRendered, HasRoomToWait, IsNewStage, IsNoted};
 ghost use Rattle.af_tally.specs.Sound.{pcm_of};
 ghost use Rattle.af_runs.specs.Pcm.{journal_pcm};
 ghost use Rattle.af_tally.specs.Summaries.{Shown, summary_of};
 ghost use Rattle.af_tally.specs.Tallies.{IsTally};
 
-use crate::playing::TurnByTurn;
-use crate::rounds::play_rounds;
+use crate::playing::play_turn;
+use crate::rounds::{Target, play_rounds};
 use crate::staging::Stage;
-use af_base::Items;
+use af_base::{Items, Memory};
 use af_client::Client;
 use af_io::{Pcm, Store, StoreError};
 use af_model::{Journal, Rounds, know_log};
 use af_normal::NormalMixer;
 use af_party::Party;
 use af_script::Script;
-use af_session::{Parties, Rig, know_frames};
+use af_session::{Parties, Rig, Room, know_frames};
 use af_tally::{Costs, Summary, Tally};
 use std::alloc::Global;
-use std::marker::Model;
+use std::marker::{Brand, Model};
 use std::mem::drop;
 
 /// The client proxies and the normal mixer of a run that is over. Contracts see the lists that the passes of the proxies and the mixer keep.
@@ -180,14 +181,35 @@ impl Stage {
         } = self;
         let links = shared.links();
         let tracks = script.tracks();
-        let rig = Rig {
+        let rig = &Rig {
             links,
             tracks,
             files,
         };
-        let turns = TurnByTurn { script, rig };
+        let goes_on = |played: &usize, _: &Parties| -> bool
+            ensures yes { result ≡ true → played.entry.now < length script.entry.now.turns }
+            ensures no { result ≡ false → length script.entry.now.turns ≤ played.entry.now }
+        { *played < script.turns().len() };
+        let round = |played: &mut usize, parties: &mut Parties, room: &mut Room| -> Result<
+            (),
+            Memory,
+        >
+            requires { HasPlayedTo script.now rig.now played.now parties.now room.now.tally × (played.now < length script.now.turns) × HasRoomToWait parties.now room.now }
+            ensures { OnOk result (TurnPlayed script.entry.now rig.entry.now played.entry.now played.exit.now parties.entry.now parties.exit.now room.entry.now room.exit.now) × IsOk result }
+        {
+            play_turn(script, rig, played, parties, room);
+            Ok(())
+        };
         let mut played = 0;
-        let sent = play_rounds(&turns, &mut played, parties, room, store, name);
+        let sent = play_rounds::<Brand, _, _, _, _>(
+            &goes_on,
+            &round,
+            &mut played,
+            parties,
+            room,
+            store,
+            &Target { name },
+        );
         let log = parties.fast.log();
         know_frames(log.frames());
         know_log(log);

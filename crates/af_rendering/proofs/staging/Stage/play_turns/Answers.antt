@@ -6,25 +6,23 @@ use Rattle.af_rendering.specs.SoFar.{HasPlayedTo, noted_of}
 use Rattle.af_rendering.specs.Stages.{HasRendered}
 use Rattle.af_rendering.specs.declared.staging.Stage.{Stage}
 use Rattle.af_session.specs.Rooms.{given_of}
-use Rattle.af_rendering.proofs.ComeSoFar.{come, played_none}
+use Rattle.af_rendering.proofs.ComeSoFar.{come, played_none, round_of_turn}
 use Rattle.af_rendering.proofs.FirstRound.{frames_first, silent_first}
 use Rattle.af_rendering.proofs.StagesRun.{has_rendered, new_room}
 use Rattle.af_rendering.proofs.staging.Stage.play_turns.Goals as goal
 
-pub play_rounds-sent-requires-clause-between : goal.play_rounds-sent-requires-clause-between
-play_rounds-sent-requires-clause-between g c =
+pub play_rounds-sent-requires-clause-begins : goal.play_rounds-sent-requires-clause-begins
+play_rounds-sent-requires-clause-begins g c =
     let s = c.args.self.now in
     let rig : Rig = record { links = c.links-links.result; tracks = c.tracks-tracks.result; files = c.args.files } in
-    played_none c.args.script.now rig c.tracks-tracks.ensures.value s.shared s.parties c.requires.new.new c.requires.files (c.requires.new.together c.links-links.result c.links-links.ensures) s.room.tally c.requires.new.room.tally
+    let none = played_none c.args.script.now rig c.tracks-tracks.ensures.value s.shared s.parties c.requires.new.new c.requires.files (c.requires.new.together c.links-links.result c.links-links.ensures) s.room.tally c.requires.new.room.tally in
+    (none, (0, come c.args.script.now rig 0 s.parties s.room.tally none))
 
-pub play_rounds-sent-requires-clause-came : goal.play_rounds-sent-requires-clause-came
-play_rounds-sent-requires-clause-came g c =
-    let s = c.args.self.now in
-    let rig : Rig = record { links = c.links-links.result; tracks = c.tracks-tracks.result; files = c.args.files } in (
-      0,
-      come c.args.script.now rig 0 s.parties s.room.tally
-          (played_none c.args.script.now rig c.tracks-tracks.ensures.value s.shared s.parties c.requires.new.new c.requires.files (c.requires.new.together c.links-links.result c.links-links.ensures) s.room.tally c.requires.new.room.tally),
-    )
+pub play_rounds-sent-requires-clause-plays : goal.play_rounds-sent-requires-clause-plays
+play_rounds-sent-requires-clause-plays g c = λ k s r far going room.
+    let script = c.args.script.now in
+    let rig : Rig = record { links = c.links-links.result; tracks = c.tracks-tracks.result; files = c.args.files } in
+    ((far, going, room), (λ answer k' s' r' post. round_of_turn script rig k.now k'.now s.now s'.now r.now r'.now answer going post))
 
 pub play_rounds-sent-requires-clause-room : goal.play_rounds-sent-requires-clause-room
 play_rounds-sent-requires-clause-room g c = new_room c.args.script.now c.args.self.now c.requires.new
@@ -40,11 +38,11 @@ returns-clause-rendered g c =
     let log : c.log-log.result.now ≡ s.parties.fast.log = c.log-log.ensures ∙ ap (λ (x : SessionState). x.fast.log) c.parties.view_is in
     let samples : All IsFrame s.parties.fast.log.frames = subst (All IsFrame) (c.frames.ensures ∙ ap (λ (l : Logged). l.frames) log) c.know_frames.ensures in
     let entries : All FitsEntry s.parties.fast.log.entries = subst (λ (l : Logged). All FitsEntry l.entries) log c.know_log.ensures in
-    let n : ℕ = c.play_rounds-sent.new.notes in
+    let n : ℕ = c.play_rounds-sent.new.kept in
     on_ok_weaker c.play_rounds-sent.result
     (λ (done : HasPlayedTo script rig n s.parties s.room.tally × (length script.turns ≤ n)).
     let rendered : (rounds : RoundsNoted) × HasRendered script c.args.files.now rounds s =
-    (noted_of (given_of rig) done.0.rounds, has_rendered script rig s (c.play_rounds-sent.ensures.kept.released ∙ c.requires.new.room.released) n done.0 done.1 samples entries) in
+    (noted_of (given_of rig) done.0.rounds, has_rendered script rig s (c.play_rounds-sent.ensures.sizes.released ∙ c.requires.new.room.released) n done.0 done.1 samples entries) in
     rendered)
     c.play_rounds-sent.ensures.over
 
