@@ -1,7 +1,8 @@
 -- What a stage is once all parties were played on it, and between two rounds.
-use Rattle.std.specs.Prelude.{◌≡◌, ◌≤◌, ℕ, zero, suc, List, [], ◌∷◌, ◌++◌, length, Option, Some, None, true, false}
+use Rattle.std.specs.Prelude.{◌≡◌, ◌-◌, ◌<◌, ◌≤◌, ℕ, zero, suc, List, [], ◌∷◌, ◌++◌, length, Option, Some, None, Result, true, false}
 use Rattle.af_base.specs.declared.frame.Frame.{Frame}
 use Rattle.af_base.specs.declared.state.FastState.{FastState}
+use Rattle.af_base.specs.declared.want.Memory.{Memory}
 use Rattle.af_engine.specs.Shares.{SharedState}
 use Rattle.af_io.specs.Files.{Files, SetsFile}
 use Rattle.af_model.specs.Journals.{RoundNoted, RoundsNoted}
@@ -10,6 +11,7 @@ use Rattle.af_rendering.specs.declared.staging.Stage.{Stage}
 use Rattle.af_playing.specs.PlayedRuns.{LeavesRun, Plays, RunsOfAll, all_ended, is_full}
 use Rattle.af_playing.specs.declared.noted.Noted.{Noted}
 use Rattle.af_playing.specs.declared.piece.Piece.{Piece}
+use Rattle.af_rendering.specs.Rounds.{RoundPlayed}
 use Rattle.af_rendering.specs.SoFar.{AreNoted}
 use Rattle.af_rendering.specs.Stages.{IsNoted}
 use Rattle.af_session.specs.NewSession.{IsNewSession}
@@ -17,6 +19,7 @@ use Rattle.af_session.specs.Rooms.{HasPlacesAt, IsReadyOn, KeepsSizes, given_of}
 use Rattle.af_session.specs.Shown.{shown_at}
 use Rattle.af_session.specs.Together.{SessionState}
 use Rattle.af_session.specs.declared.rig.Rig.{Rig}
+use Rattle.af_session.specs.declared.room.Room.{Room}
 use Rattle.af_side_by_side.specs.Logging.{LoggingState, LogsPlay}
 use Rattle.af_tally.specs.Sound.{pcm_of}
 use Rattle.af_tally.specs.Tallies.{IsTally, Tallied}
@@ -59,6 +62,11 @@ pub record HasPlayedRounds (script : ScriptData) (kept : Option ℕ) (rig : Rig)
   pub form : AreNoted (length rig.tracks.now) noted.rounds t.fast.log
   pub sizes : KeepsSizes start.fast t.fast
   pub log : LogsPlay kept t.fast noted.rounds.rounds noted.logging
+
+-- a round of all parties was played from s to s', whether or not it was noted
+abbrev pub AllPlayedRound : ScriptData → Option ℕ → Rig → Noted → Noted → SessionState → SessionState → Room → Room → Result (Unit {0}) Memory → Type 0
+AllPlayedRound script kept rig noted noted' s s' r r' answer =
+    RoundPlayed (HasPlayedRounds script kept rig noted' s') ((rounds : List RoundNoted) × Plays script rig.files.now rounds s') (script.cycles - length noted'.rounds.rounds < script.cycles - length noted.rounds.rounds) s s' r r' answer
 
 -- ## What is left
 

@@ -1,13 +1,14 @@
 //! The rounds of all parties from first to last, and the file of what they mixed.
-ghost use Rattle.std.specs.Prelude.{◌≡◌, ◌+◌, ◌-◌, ◌<◌, ◌≤◌, ◌^◌, ℕ, true, false, List, [], length, map, IfOk, OnOk, OnErr};
+ghost use Rattle.std.specs.Prelude.{◌≡◌, ◌+◌, ◌<◌, ◌≤◌, ◌^◌, ℕ, true, false, [], Option, length, map, IfOk, OnOk, OnErr};
 ghost use Rattle.std.specs.List.{list_all};
 ghost use Rattle.af_io.specs.Causes.{HasCause};
-ghost use Rattle.af_model.specs.Journals.{RoundNoted, cycles_of};
+ghost use Rattle.af_model.specs.Journals.{cycles_of};
 ghost use Rattle.af_playing.specs.Pieces.{given_by};
-ghost use Rattle.af_playing.specs.PlayedRuns.{GoesOn, Plays, all_ended, is_full};
-ghost use Rattle.af_playing.specs.PlayedStages.{HasPlayed, HasPlayedRounds, LeavesPiece, LogsOn, NotesNone, NotesRound, SetsSound, kept_in};
+ghost use Rattle.af_playing.specs.PlayedRuns.{GoesOn, all_ended, is_full};
+ghost use Rattle.af_playing.specs.PlayedStages.{AllPlayedRound, HasPlayed, HasPlayedRounds, LeavesPiece, LogsOn, NotesNone, NotesRound, SetsSound, kept_in};
 ghost use Rattle.af_rendering.specs.Rendered.{HaveFiles};
-ghost use Rattle.af_rendering.specs.Stages.{IsNewStage};
+ghost use Rattle.af_rendering.specs.Stages.{HasRoomToWait, IsNewStage};
+ghost use Rattle.af_script.specs.Data.{ScriptData};
 ghost use Rattle.af_session.specs.Noted.{NotesFrames};
 ghost use Rattle.af_session.specs.Together.{SessionState};
 ghost use Rattle.af_side_by_side.specs.Logging.{LogsPlay};
@@ -19,10 +20,11 @@ use af_base::{ClientCall, Memory};
 use af_io::{Gate, Store, StoreError};
 use af_model::Rounds;
 use af_party::Party;
-use af_rendering::{Playing, Stage, play_rounds};
+use af_rendering::{Stage, Target, play_rounds};
 use af_session::{Parties, Rig, Room, copied_turn, know_frames};
 use af_side_by_side::round_of_all;
 use std::alloc::Global;
+use std::marker::Brand;
 use std::thread::Threads;
 
 // A copy of the calls of each client's last turn. Memory if an allocation was refused; no other refusal comes.
@@ -85,51 +87,26 @@ fn is_going(parties: &Parties, cycles: u32) -> bool
     !have_ended(parties) && parties.fast.log().len() != cycles as usize
 }
 
-// The rounds of a play, in each of which every party that hasn't ended makes one turn, at the same time as the others.
-#[derive(Drop)]
-struct AllAtOnce<'a, 'b, 'c, 'd, 'e, 'f, 'g, R, G> {
-    rt: &'a R,
-    gate: &'b G,
+// A round of all parties, and its note. Memory if an allocation was refused: the round was played, but not noted.
+fn round_noted<R: Threads + Sync, G: Gate>(
+    noted: &mut Noted,
+    parties: &mut Parties,
+    room: &mut Room,
+    rt: &R,
     alloc: Global,
-    piece: &'c Piece<'d>,
-    rig: Rig<'e, 'f, 'g>,
-}
-
-impl<R: Threads + Sync, G: Gate> Playing for AllAtOnce<'_, '_, '_, '_, '_, '_, '_, R, G> {
-    type Notes = Noted;
-
-    ghost between = { λ p noted t tally. HasPlayedRounds p.piece.now.script.now (kept_in p.piece.now.room) p.rig noted t tally };
-
-    ghost came = { λ p t. (rounds : List RoundNoted) × Plays p.piece.now.script.now p.rig.files.now rounds t };
-
-    ghost going = { λ p noted t. GoesOn t };
-
-    ghost over = { λ p noted t. all_ended t ≡ false → is_full t ≡ true };
-
-    ghost left = { λ p noted t. p.piece.now.script.now.cycles - length noted.rounds.rounds };
-
-    fn goes_on(&self, noted: &Noted, parties: &Parties) -> bool {
-        is_going(parties, self.piece.script.cycles())
-    }
-
-    fn round(
-        &self,
-        noted: &mut Noted,
-        parties: &mut Parties,
-        room: &mut Room,
-    ) -> Result<(), Memory> {
-        let had_ended = parties.normal.has_ended();
-        let entries = parties.fast.log().len();
-        round_of_all(
-            parties,
-            self.rt,
-            &self.rig,
-            room,
-            &mut noted.logging,
-            self.gate,
-        );
-        note_all(parties, self.alloc, had_ended, entries, &mut noted.rounds)
-    }
+    rig: &Rig<'_, '_, '_>,
+    gate: &G,
+) -> Result<(), Memory>
+    requires far { (script : ScriptData) × (kept : Option ℕ) × HasPlayedRounds script kept rig.now noted.old parties.old room.old.tally }
+    requires going { GoesOn parties.old }
+    requires room { HasRoomToWait parties.old room.old }
+    ensures { (script : ScriptData) (kept : Option ℕ) → HasPlayedRounds script kept rig.now noted.old parties.old room.old.tally
+        → AllPlayedRound script kept rig.now noted.old noted.new parties.old parties.new room.old room.new result }
+{
+    let had_ended = parties.normal.has_ended();
+    let entries = parties.fast.log().len();
+    round_of_all(parties, rt, rig, room, &mut noted.logging, gate);
+    note_all(parties, alloc, had_ended, entries, &mut noted.rounds)
 }
 
 /// Makes the file, and plays rounds of all parties until all have ended, or the log has all of its entries. Each round is noted, in the tally too, and the bytes of its mixed cycles go to the file, in pieces of several rounds.
@@ -163,19 +140,29 @@ pub(crate) fn play_to_end<R: Threads + Sync, S: Store, G: Gate>(
     let links = shared.links();
     let tracks = piece.script.tracks();
     let files = piece.files;
-    let rig = Rig {
+    let rig = &Rig {
         links,
         tracks,
         files,
     };
-    let all = AllAtOnce {
-        rt,
-        gate,
-        alloc,
-        piece,
-        rig,
-    };
-    let sent = play_rounds(&all, noted, parties, room, store, piece.name);
+    let goes_on = |_: &Noted, parties: &Parties| -> bool
+        requires { piece.now.script.now.cycles ≡ parties.now.fast.cycles }
+        ensures yes { result ≡ true → GoesOn parties.entry.now }
+        ensures no { result ≡ false → all_ended parties.entry.now ≡ false → is_full parties.entry.now ≡ true }
+    { is_going(parties, piece.script.cycles()) };
+    let round = |noted: &mut Noted, parties: &mut Parties, room: &mut Room| -> Result<(), Memory>
+        requires { HasPlayedRounds piece.now.script.now (kept_in piece.now.room) rig.now noted.now parties.now room.now.tally × GoesOn parties.now × HasRoomToWait parties.now room.now }
+        ensures { AllPlayedRound piece.entry.now.script.now (kept_in piece.entry.now.room) rig.entry.now noted.entry.now noted.exit.now parties.entry.now parties.exit.now room.entry.now room.exit.now result }
+    { round_noted(noted, parties, room, rt, alloc, rig, gate) };
+    let sent = play_rounds::<Brand, _, _, _, _>(
+        &goes_on,
+        &round,
+        noted,
+        parties,
+        room,
+        store,
+        &Target { name: piece.name },
+    );
     let log = parties.fast.log();
     know_frames(log.frames());
     noted.rounds.know_numbers(log);

@@ -4,23 +4,31 @@ use Rattle.af_playing.proofs.Common.{All, HasRanges, IsFrame, LeavesFront, Logge
 use Rattle.af_playing.specs.PlayedRuns.{LeavesRun, all_ended, is_full}
 use Rattle.af_playing.specs.PlayedStages.{HasPlayed, HasPlayedRounds, kept_in}
 use Rattle.af_playing.specs.declared.noted.Noted.{Noted}
-use Rattle.af_playing.proofs.RoundsPlayed.{come, has_played, played_none}
+use Rattle.af_playing.proofs.RoundsPlayed.{cycles_are, has_played, played_none}
 use Rattle.af_playing.proofs.RunOfAll.{plays_none}
 use Rattle.af_rendering.proofs.StagesRun.{new_room}
 use Rattle.af_playing.proofs.playing_of_all.play_to_end.Goals as goal
 
 -- ## Before the first round
 
-pub play_rounds-sent-requires-clause-between : goal.play_rounds-sent-requires-clause-between
-play_rounds-sent-requires-clause-between g c =
+pub play_rounds-sent-requires-clause-begins : goal.play_rounds-sent-requires-clause-begins
+play_rounds-sent-requires-clause-begins g c =
     let p = c.args.piece.now in
     let s = c.args.stage.now in
     let rig : Rig = record { links = c.links-links.result; tracks = c.tracks-tracks.result; files = p.files } in
+    let none =
     played_none p.script.now rig (kept_in p.room) c.tracks-tracks.ensures.value s.shared s.parties c.requires.new.new c.requires.files (c.requires.new.together c.links-links.result c.links-links.ensures) s.room.tally c.requires.new.room.tally
-    c.args.noted.now c.requires.none c.requires.log
+    c.args.noted.now c.requires.none c.requires.log in
+    (none, ([], plays_none p.script.now s.shared s.parties c.requires.new.new p.files.now))
 
-pub play_rounds-sent-requires-clause-came : goal.play_rounds-sent-requires-clause-came
-play_rounds-sent-requires-clause-came g c = let s = c.args.stage.now in ([], plays_none c.args.piece.now.script.now s.shared s.parties c.requires.new.new c.args.piece.now.files.now)
+pub play_rounds-sent-requires-clause-asks : goal.play_rounds-sent-requires-clause-asks
+play_rounds-sent-requires-clause-asks g c = λ k s tally so.
+    let p = c.args.piece.now in
+    let rig : Rig = record { links = c.links-links.result; tracks = c.tracks-tracks.result; files = p.files } in
+    (cycles_are p.script.now rig (kept_in p.room) k.now s.now tally so, (λ answer post. (post.yes, post.no)))
+
+pub play_rounds-sent-requires-clause-plays : goal.play_rounds-sent-requires-clause-plays
+play_rounds-sent-requires-clause-plays g c = λ k s r so going room. ((so, going, room), (λ answer k' s' r' post. post))
 
 pub play_rounds-sent-requires-clause-room : goal.play_rounds-sent-requires-clause-room
 play_rounds-sent-requires-clause-room g c = new_room c.args.piece.now.script.now c.args.stage.now c.requires.new
@@ -34,7 +42,7 @@ pub returns-clause-played : goal.returns-clause-played
 returns-clause-played g c =
     let p = c.args.piece.now in
     let rig : Rig = record { links = c.links-links.result; tracks = c.tracks-tracks.result; files = p.files } in
-    let noted : Noted = c.play_rounds-sent.new.notes in
+    let noted : Noted = c.play_rounds-sent.new.kept in
     let s : Stage = record { shared = c.args.stage.now.shared; parties = c.play_rounds-sent.new.parties; room = c.play_rounds-sent.new.room } in
     let log : Logged = s.parties.fast.log in
     let is : c.log-log.result.now ≡ log = c.log-log.ensures ∙ ap (λ (x : SessionState). x.fast.log) c.parties.view_is in
@@ -43,7 +51,7 @@ returns-clause-played g c =
     on_ok_weaker c.play_rounds-sent.result
     (λ (done : HasPlayedRounds p.script.now (kept_in p.room) rig noted s.parties s.room.tally × (all_ended s.parties ≡ false → is_full s.parties ≡ true)).
     let played : HasPlayed p.script.now p.files.now noted.rounds s =
-    has_played p.script.now rig (kept_in p.room) noted s (c.play_rounds-sent.ensures.kept.released ∙ c.requires.new.room.released) done.0 done.1 samples numbers in
+    has_played p.script.now rig (kept_in p.room) noted s (c.play_rounds-sent.ensures.sizes.released ∙ c.requires.new.room.released) done.0 done.1 samples numbers in
     played)
     c.play_rounds-sent.ensures.over
 
@@ -73,7 +81,7 @@ pub returns-clause-log : goal.returns-clause-log
 returns-clause-log g c =
     let p = c.args.piece.now in
     let rig : Rig = record { links = c.links-links.result; tracks = c.tracks-tracks.result; files = p.files } in
-    let noted : Noted = c.play_rounds-sent.new.notes in
+    let noted : Noted = c.play_rounds-sent.new.kept in
     let s : SessionState = c.play_rounds-sent.new.parties in
     on_ok_weaker c.play_rounds-sent.result (λ (done : HasPlayedRounds p.script.now (kept_in p.room) rig noted s c.play_rounds-sent.new.room.tally × (all_ended s ≡ false → is_full s ≡ true)). done.0.log)
     c.play_rounds-sent.ensures.over
