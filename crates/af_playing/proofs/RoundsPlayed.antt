@@ -81,7 +81,7 @@ module _ (script : ScriptData) (rig : Rig) where
       few_rounds : i < t.fast.cycles
       few_rounds =
           let going = run_goes given 0 so.start noted.rounds.rounds so.run.bytes t so.run.run (knowing_first script so.shared so.start so.new) (going_first so.start) in
-          few_so_far i t so.ready.together.fast.0.room.entries.0 goes going.1
+          few_so_far i t so.ready.together.fast.0.room.entries.0 goes (subst (λ (n : ℕ). IsGoing n t) (let e : 0 + i ≡ i = omega arith in e) going.1)
 
       few_more : i < 100000
       few_more = let few = few_rounds in let most = so.ready.together.fast.0.room.sized.2 in omega arith

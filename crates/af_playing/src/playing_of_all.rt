@@ -79,12 +79,12 @@ fn note_all(
 }
 
 // Whether some party goes on, and the log has room for an entry.
-fn is_going(parties: &Parties, cycles: u32) -> bool
-    requires cycles { cycles ≡ parties.now.fast.cycles }
+fn is_going(parties: &Parties, piece: &Piece<'_>) -> bool
+    requires cycles { piece.now.script.now.cycles ≡ parties.now.fast.cycles }
     ensures yes { result ≡ true → GoesOn parties.now }
     ensures no { result ≡ false → all_ended parties.now ≡ false → is_full parties.now ≡ true }
 {
-    !have_ended(parties) && parties.fast.log().len() != cycles as usize
+    !have_ended(parties) && parties.fast.log().len() != piece.script.cycles() as usize
 }
 
 // A round of all parties, and its note. Memory if an allocation was refused: the round was played, but not noted.
@@ -149,10 +149,11 @@ pub(crate) fn play_to_end<R: Threads + Sync, S: Store, G: Gate>(
         requires { piece.now.script.now.cycles ≡ parties.now.fast.cycles }
         ensures yes { result ≡ true → GoesOn parties.entry.now }
         ensures no { result ≡ false → all_ended parties.entry.now ≡ false → is_full parties.entry.now ≡ true }
-    { is_going(parties, piece.script.cycles()) };
+    { is_going(parties, piece) };
     let round = |noted: &mut Noted, parties: &mut Parties, room: &mut Room| -> Result<(), Memory>
-        requires { HasPlayedRounds piece.now.script.now (kept_in piece.now.room) rig.now noted.now parties.now room.now.tally × GoesOn parties.now × HasRoomToWait parties.now room.now }
-        ensures { AllPlayedRound piece.entry.now.script.now (kept_in piece.entry.now.room) rig.entry.now noted.entry.now noted.exit.now parties.entry.now parties.exit.now room.entry.now room.exit.now result }
+        requires { (script : ScriptData) × (kept : Option ℕ) × HasPlayedRounds script kept rig.now noted.now parties.now room.now.tally × GoesOn parties.now × HasRoomToWait parties.now room.now }
+        ensures { (script : ScriptData) (kept : Option ℕ) → HasPlayedRounds script kept rig.entry.now noted.entry.now parties.entry.now room.entry.now.tally
+            → AllPlayedRound script kept rig.entry.now noted.entry.now noted.exit.now parties.entry.now parties.exit.now room.entry.now room.exit.now result }
     { round_noted(noted, parties, room, rt, alloc, rig, gate) };
     let sent = play_rounds::<Brand, _, _, _, _>(
         &goes_on,

@@ -1,6 +1,7 @@
-use Rattle.std.proofs.Common.{◌≡◌, Err, inl, refl, ap}
-use Rattle.af_playing.proofs.Common.{MixerState, Played, TellsLog, journal_of, on_ok}
+use Rattle.std.proofs.Common.{◌≡◌, Err, inl, refl, ap, subst}
+use Rattle.af_playing.proofs.Common.{MixerState, Played, RoundsNoted, TellsLog, journal_of, on_ok}
 use Rattle.af_playing.specs.declared.answering.PlayFault.TheVariants as fault
+use Rattle.af_playing.specs.PlayKept.{Answers}
 use Rattle.af_playing.specs.PlayedRuns.{fault_of}
 use Rattle.af_playing.specs.PlayedStages.{kept_in}
 use Rattle.af_playing.proofs.KeptPlays.{cause_kept, files_kept, files_none, keeps, keeps_none, steps_kept, steps_none}
@@ -51,23 +52,31 @@ returns-in-Err-clause-steps g c =
 
 pub returns-in-Ok-clause-keeps : goal.returns-in-Ok-clause-keeps
 returns-in-Ok-clause-keeps g c =
+    let a : Answers c.args.piece.now.script.now c.args.piece.now.files.now c.play_to_end.new.noted.rounds c.play_to_end.new.stage c.answer.result =
+    subst (λ (x : RoundsNoted). Answers c.args.piece.now.script.now c.args.piece.now.files.now x c.play_to_end.new.stage c.answer.result) c.replace-rounds.ensures.value c.answer.ensures in
     let script = c.args.piece.now.script.now in
     let files = c.args.piece.now.files.now in
-    keeps script files c.play_to_end.new.noted.rounds c.play_to_end.new.stage c.answer.result c.in-Ok.ensures.played c.answer.ensures c.in_ok-stage.ensures.script_is (λ journal legal. c.drained_tracks_have_reached_their_stop.ensures script files journal c.in_ok-stage.ensures.script_is legal)
+    keeps script files c.play_to_end.new.noted.rounds c.play_to_end.new.stage c.answer.result c.in-Ok.ensures.played a c.in_ok-stage.ensures.script_is (λ journal legal. c.drained_tracks_have_reached_their_stop.ensures script files journal c.in_ok-stage.ensures.script_is legal)
 
 pub returns-in-Ok-clause-files : goal.returns-in-Ok-clause-files
 returns-in-Ok-clause-files g c = λ told.
-    files_kept c.args.piece.now.script.now c.args.piece.now.files.now c.play_to_end.new.noted.rounds c.play_to_end.new.stage c.answer.result c.in-Ok.ensures.played c.answer.ensures c.args.piece.now.name.now (g.S.Store.files c.args.store.now) (g.S.Store.files c.play_to_end.new.store)
+    let a : Answers c.args.piece.now.script.now c.args.piece.now.files.now c.play_to_end.new.noted.rounds c.play_to_end.new.stage c.answer.result =
+    subst (λ (x : RoundsNoted). Answers c.args.piece.now.script.now c.args.piece.now.files.now x c.play_to_end.new.stage c.answer.result) c.replace-rounds.ensures.value c.answer.ensures in
+    files_kept c.args.piece.now.script.now c.args.piece.now.files.now c.play_to_end.new.noted.rounds c.play_to_end.new.stage c.answer.result c.in-Ok.ensures.played a c.args.piece.now.name.now (g.S.Store.files c.args.store.now) (g.S.Store.files c.play_to_end.new.store)
     (c.in-Ok.ensures.written told)
 
 pub returns-in-Ok-clause-cause : goal.returns-in-Ok-clause-cause
 returns-in-Ok-clause-cause g c =
-    cause_kept c.args.piece.now.script.now c.args.piece.now.files.now c.play_to_end.new.noted.rounds c.play_to_end.new.stage c.answer.result c.in-Ok.ensures.played c.answer.ensures c.in-Ok.field-0 (g.S.Store.faults c.args.store.now) (g.S.Store.faults c.play_to_end.new.store)
+    let a : Answers c.args.piece.now.script.now c.args.piece.now.files.now c.play_to_end.new.noted.rounds c.play_to_end.new.stage c.answer.result =
+    subst (λ (x : RoundsNoted). Answers c.args.piece.now.script.now c.args.piece.now.files.now x c.play_to_end.new.stage c.answer.result) c.replace-rounds.ensures.value c.answer.ensures in
+    cause_kept c.args.piece.now.script.now c.args.piece.now.files.now c.play_to_end.new.noted.rounds c.play_to_end.new.stage c.answer.result c.in-Ok.ensures.played a c.in-Ok.field-0 (g.S.Store.faults c.args.store.now) (g.S.Store.faults c.play_to_end.new.store)
     c.in-Ok.ensures.cause
 
 pub returns-in-Ok-clause-steps : goal.returns-in-Ok-clause-steps
 returns-in-Ok-clause-steps g c =
-    steps_kept c.args.piece.now.script.now c.args.piece.now.files.now c.play_to_end.new.noted.rounds c.play_to_end.new.stage c.answer.result c.in-Ok.ensures.played c.answer.ensures c.steps.result.items c.steps.ensures
+    let a : Answers c.args.piece.now.script.now c.args.piece.now.files.now c.play_to_end.new.noted.rounds c.play_to_end.new.stage c.answer.result =
+    subst (λ (x : RoundsNoted). Answers c.args.piece.now.script.now c.args.piece.now.files.now x c.play_to_end.new.stage c.answer.result) c.replace-rounds.ensures.value c.answer.ensures in
+    steps_kept c.args.piece.now.script.now c.args.piece.now.files.now c.play_to_end.new.noted.rounds c.play_to_end.new.stage c.answer.result c.in-Ok.ensures.played a c.steps.result.items c.steps.ensures
 
 -- ## The log
 
@@ -78,6 +87,8 @@ play_to_end-requires-clause-log g c = λ κs lives.
 
 pub returns-in-Ok-clause-log : goal.returns-in-Ok-clause-log
 returns-in-Ok-clause-log g c =
+    let a : Answers c.args.piece.now.script.now c.args.piece.now.files.now c.play_to_end.new.noted.rounds c.play_to_end.new.stage c.answer.result =
+    subst (λ (x : RoundsNoted). Answers c.args.piece.now.script.now c.args.piece.now.files.now x c.play_to_end.new.stage c.answer.result) c.replace-rounds.ensures.value c.answer.ensures in
     let s = c.play_to_end.new.stage in
     let noted = c.play_to_end.new.noted in
     let have = c.in-Ok.ensures.played in
@@ -85,4 +96,4 @@ returns-in-Ok-clause-log g c =
     let frames = c.args.piece.now.script.now.frames in
     on_ok (λ (p : Played). p.journal ≡ journal_of noted.rounds s.parties.fast.log) (λ (p : Played). TellsLog kept frames p.journal noted.logging) c.answer.result
     (λ p journal. tells_log kept frames s.parties.fast noted.rounds p.journal noted.logging c.in-Ok.ensures.log have.noted.whole have.frames have.entries journal)
-    c.answer.ensures.journal
+    a.journal

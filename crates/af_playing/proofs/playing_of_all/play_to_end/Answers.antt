@@ -1,4 +1,4 @@
-use Rattle.std.proofs.Common.{◌≡◌, ℕ, List, [], Some, OnErr, OnOk, true, false, inr, refl, ap, sym, subst, ◌∙◌}
+use Rattle.std.proofs.Common.{rules, ◌≡◌, ℕ, List, [], Some, OnErr, OnOk, true, false, inr, refl, ap, sym, subst, ◌∙◌}
 use Rattle.std.proofs.lemmas.Result.{on_err_weaker, on_ok_weaker}
 use Rattle.af_playing.proofs.Common.{All, HasRanges, IsFrame, LeavesFront, Logged, Rig, RoundNoted, SessionState, SetsFile, Stage, frames_first, journal_of, pcm_of, silent_first}
 use Rattle.af_playing.specs.PlayedRuns.{LeavesRun, all_ended, is_full}
@@ -25,10 +25,12 @@ pub play_rounds-sent-requires-clause-asks : goal.play_rounds-sent-requires-claus
 play_rounds-sent-requires-clause-asks g c = λ k s tally so.
     let p = c.args.piece.now in
     let rig : Rig = record { links = c.links-links.result; tracks = c.tracks-tracks.result; files = p.files } in
-    (cycles_are p.script.now rig (kept_in p.room) k.now s.now tally so, (λ answer post. (post.yes, post.no)))
+    (cycles_are p.script.now rig (kept_in p.room) k.now s.now tally so, (λ answer post. (post.0, post.1)))
 
 pub play_rounds-sent-requires-clause-plays : goal.play_rounds-sent-requires-clause-plays
-play_rounds-sent-requires-clause-plays g c = λ k s r so going room. ((so, going, room), (λ answer k' s' r' post. post))
+play_rounds-sent-requires-clause-plays g c = λ k s r so going room.
+    let p = c.args.piece.now in
+    (((p.script.now, kept_in p.room, so, going, room), search rules), (λ answer k' s' r' post. post p.script.now (kept_in p.room) so))
 
 pub play_rounds-sent-requires-clause-room : goal.play_rounds-sent-requires-clause-room
 play_rounds-sent-requires-clause-room g c = new_room c.args.piece.now.script.now c.args.stage.now c.requires.new
