@@ -1,6 +1,6 @@
 -- What is so between two rounds of a play: before the first of them, after one more, and at the end.
-use Rattle.std.proofs.Common.{◌≡◌, ◌+◌, ◌-◌, ◌<◌, ◌≤◌, ◌++◌, ◌∷◌, ℕ, Option, List, [], false, true, length, append_assoc, refl, sym, ap, subst, ◌∙◌, arith}
-use Rattle.af_playing.proofs.Common.{All, AreNoted, AreTogether, CarriesOn, FastState, Given, HasPlacesAt, HasRanges, IsFrame, IsNewSession, IsReady, IsReadyOn, IsRoundOfAll, IsTally, KeepsSound, LoggingState, LogsPlay, MixerState, NotesFrames, Rig, Room, RoundNoted, RoundsNoted, Roomy, ScriptData, SessionState, SharedState, Stage, Tallied, TrackSpec, all_noted, empty_first, frames_first, given_of, journal_of, length-append, noted_none, nothing_shown, pcm_of, places_first, ready_first, shown_at, tally_first}
+use Rattle.std.proofs.Common.{◌≡◌, ◌+◌, ◌-◌, ◌<◌, ◌++◌, ◌∷◌, ℕ, Option, List, [], false, true, length, append_assoc, refl, sym, ap, subst, ◌∙◌, arith}
+use Rattle.af_playing.proofs.Common.{All, AreNoted, AreTogether, CarriesOn, FastState, Given, HasPlacesAt, HasRanges, IsFrame, IsNewSession, IsReady, IsReadyOn, IsTally, KeepsSound, LoggingState, LogsPlay, MixerState, NotesFrames, Rig, Room, RoundNoted, RoundsNoted, Roomy, ScriptData, SessionState, SharedState, Stage, Tallied, TrackSpec, all_noted, empty_first, frames_first, given_of, journal_of, length-append, noted_none, nothing_shown, pcm_of, places_first, ready_first, shown_at, tally_first}
 use Rattle.af_playing.proofs.ExitSeen.{Knowing, round_knows}
 use Rattle.af_playing.proofs.GoingOn.{few_so_far, goes_further}
 use Rattle.af_playing.proofs.RoundsLeft.{IsGoing, going_first}

@@ -20,7 +20,7 @@ use Rattle.af_session.specs.Shown.{shown_at}
 use Rattle.af_session.specs.Together.{SessionState}
 use Rattle.af_session.specs.declared.rig.Rig.{Rig}
 use Rattle.af_session.specs.declared.room.Room.{Room}
-use Rattle.af_side_by_side.specs.Logging.{LoggingState, LogsPlay}
+use Rattle.af_side_by_side.specs.Logging.{LogsPlay}
 use Rattle.af_tally.specs.Sound.{pcm_of}
 use Rattle.af_tally.specs.Tallies.{IsTally, Tallied}
 

@@ -1,6 +1,6 @@
-use Rattle.std.proofs.Common.{rules, ◌≡◌, ℕ, List, [], Some, OnErr, OnOk, true, false, inr, refl, ap, sym, subst, ◌∙◌}
+use Rattle.std.proofs.Common.{rules, ◌≡◌, ℕ, [], Some, OnErr, OnOk, true, false, inr, ap, subst, ◌∙◌}
 use Rattle.std.proofs.lemmas.Result.{on_err_weaker, on_ok_weaker}
-use Rattle.af_playing.proofs.Common.{All, HasRanges, IsFrame, LeavesFront, Logged, Rig, RoundNoted, SessionState, SetsFile, Stage, frames_first, journal_of, pcm_of, silent_first}
+use Rattle.af_playing.proofs.Common.{All, HasRanges, IsFrame, LeavesFront, Logged, Rig, SessionState, SetsFile, Stage, frames_first, journal_of, pcm_of, silent_first}
 use Rattle.af_playing.specs.PlayedRuns.{LeavesRun, all_ended, is_full}
 use Rattle.af_playing.specs.PlayedStages.{HasPlayed, HasPlayedRounds, kept_in}
 use Rattle.af_playing.specs.declared.noted.Noted.{Noted}

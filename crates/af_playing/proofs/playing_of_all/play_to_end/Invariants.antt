@@ -1,4 +1,4 @@
-use Rattle.std.proofs.Common.{◌≡◌, ◌-◌, ℕ, List, length, true, false}
+use Rattle.std.proofs.Common.{◌≡◌, ◌-◌, List, length, true, false}
 use Rattle.af_playing.proofs.Common.{RoundNoted}
 use Rattle.af_playing.specs.PlayedRuns.{GoesOn, Plays, all_ended, is_full}
 use Rattle.af_playing.specs.PlayedStages.{HasPlayedRounds, kept_in}

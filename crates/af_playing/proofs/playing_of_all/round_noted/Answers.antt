@@ -1,4 +1,4 @@
-use Rattle.std.proofs.Common.{◌≡◌, ◌+◌, ◌<◌, ◌≤◌, ℕ, Result, Ok, Err, OnOk, length, refl, ap, sym, subst, ◌∙◌, arith}
+use Rattle.std.proofs.Common.{◌≡◌, ◌+◌, ℕ, Result, Ok, Err, OnOk, length, refl, ap, ◌∙◌, arith}
 use Rattle.std.proofs.lemmas.Result.{on_ok_weaker}
 use Rattle.af_playing.proofs.Common.{Logged, NotesFrames, Room, RoundNoted, RoundsNoted, SessionState, all_noted, cycles_of, few_noted, given_of}
 use Rattle.af_playing.specs.PlayedStages.{HasPlayedRounds, NotesRound}
