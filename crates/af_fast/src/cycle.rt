@@ -135,9 +135,8 @@ impl FastMixer {
         ensures linked { IsLinked links.now self.new }
         ensures order { StaysInOrder self.old self.new }
         ensures turn { self.new.adopted ≡ false }
-        ensures sizes { (self.new.frames ≡ self.old.frames) × (self.new.cycles ≡ self.old.cycles) }
+        ensures sizes { (self.new.frames ≡ self.old.frames) × (self.new.cycles ≡ self.old.cycles) × (length out.new ≡ length out.old) }
         ensures cycle { (middle : MixerState) × Adopts self.old middle × ((earlier : List CycleEntry) → IsInOrderAfter earlier self.old → MixesOnceAfter earlier middle out.old result self.new out.new) }
-        ensures length { length out.new ≡ length out.old }
         ensures steps { let tracks = tracks_of self.new.observer.past.state in steps.new ≤ steps.old + (tracks + 1) * self.old.frames + 7 * tracks + 6 }
         ensures seven { tracks_of self.new.observer.past.state ≤ 7 → steps.new ≤ steps.old + 8 * self.old.frames + 65 }
         ensures most { steps.new ≤ steps.old + slots * (self.old.frames + 8) + 1 }

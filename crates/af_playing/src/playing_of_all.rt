@@ -151,7 +151,8 @@ pub(crate) fn play_to_end<R: Threads + Sync, S: Store, G: Gate>(
         ensures no { result ≡ false → all_ended parties.entry.now ≡ false → is_full parties.entry.now ≡ true }
     { is_going(parties, piece) };
     let round = |noted: &mut Noted, parties: &mut Parties, room: &mut Room| -> Result<(), Memory>
-        requires { (script : ScriptData) × (kept : Option ℕ) × HasPlayedRounds script kept rig.now noted.now parties.now room.now.tally × GoesOn parties.now × HasRoomToWait parties.now room.now }
+        requires { (script : ScriptData) × (kept : Option ℕ) × HasPlayedRounds script kept rig.now noted.now parties.now room.now.tally
+            × GoesOn parties.now × HasRoomToWait parties.now room.now }
         ensures { (script : ScriptData) (kept : Option ℕ) → HasPlayedRounds script kept rig.entry.now noted.entry.now parties.entry.now room.entry.now.tally
             → AllPlayedRound script kept rig.entry.now noted.entry.now noted.exit.now parties.entry.now parties.exit.now room.entry.now room.exit.now result }
     { round_noted(noted, parties, room, rt, alloc, rig, gate) };

@@ -194,8 +194,10 @@ impl Stage {
             (),
             Memory,
         >
-            requires { HasPlayedTo script.now rig.now played.now parties.now room.now.tally × (played.now < length script.now.turns) × HasRoomToWait parties.now room.now }
-            ensures { OnOk result (TurnPlayed script.entry.now rig.entry.now played.entry.now played.exit.now parties.entry.now parties.exit.now room.entry.now room.exit.now) × IsOk result }
+            requires { HasPlayedTo script.now rig.now played.now parties.now room.now.tally
+                × (played.now < length script.now.turns) × HasRoomToWait parties.now room.now }
+            ensures { OnOk result (TurnPlayed script.entry.now rig.entry.now played.entry.now played.exit.now
+                parties.entry.now parties.exit.now room.entry.now room.exit.now) × IsOk result }
         {
             play_turn(script, rig, played, parties, room);
             Ok(())

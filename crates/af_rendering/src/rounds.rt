@@ -130,8 +130,10 @@ pub fn play_rounds<
     ensures over { OnOk result (W.between kept.new parties.new room.new.tally × W.over kept.new parties.new) }
     ensures came { W.came parties.new }
     ensures sizes { KeepsRoom room.old room.new }
-    ensures written { S.told store.old → OnOk result (SetsFile (S.files store.old) target.now.name.now (Some (pcm_of parties.old.fast.frames parties.new.fast.log)) (S.files store.new)) }
-    ensures left { S.told store.old → OnErr result (LeavesFront (S.files store.old) target.now.name.now (pcm_of parties.old.fast.frames parties.new.fast.log) (S.files store.new)) }
+    ensures written { S.told store.old
+        → OnOk result (SetsFile (S.files store.old) target.now.name.now (Some (pcm_of parties.old.fast.frames parties.new.fast.log)) (S.files store.new)) }
+    ensures left { S.told store.old
+        → OnErr result (LeavesFront (S.files store.old) target.now.name.now (pcm_of parties.old.fast.frames parties.new.fast.log) (S.files store.new)) }
     ensures tells { S.told store.old → S.told store.new }
     ensures cause { HasCause (S.faults store.old) (S.faults store.new) result }
 {
