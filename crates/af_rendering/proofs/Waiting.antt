@@ -1,8 +1,9 @@
 -- Bytes that wait to go out behind what a file has of a sound.
-use Rattle.std.proofs.Common.{◌≡◌, ◌⊎◌, ⊎_elim, ℕ, ◌++◌, List, [], Some, length, take, inr, sym, ap, subst, ◌∙◌, append-nil}
-use Rattle.af_rendering.proofs.Common.{Files, KeepsSound, LeavesFront, MixerState, SetsFile, pcm_of}
+use Rattle.std.proofs.Common.{◌≡◌, ◌⊎◌, ⊎_elim, ℕ, ◌++◌, Bool, List, [], Some, true, length, take, inr, sym, ap, subst, ◌∙◌, append-nil}
+use Rattle.af_rendering.proofs.Common.{Files, KeepsSound, LeavesFront, MixerState, SetsFile, Tallied, pcm_of}
 use Rattle.std.proofs.Math.Seq.{take-append_seam}
 use Rattle.af_rendering.specs.Rendered.{HoldsBut}
+use Rattle.af_rendering.specs.Rounds.{Asks}
 
 module _ (base files : Files) (name sound : List ℕ) where
   -- no bytes wait behind a whole sound
@@ -34,3 +35,7 @@ ends_on m m' same bytes bytes' rest keeps sent (front, whole) = subst (λ (n : �
     (λ (is : rest ≡ bytes'). (front, ap (λ (xs : List ℕ). front ++ xs) is ∙ keeps front whole))
     (λ (none : rest ≡ []). (pcm_of m.frames m'.log, ap (λ (xs : List ℕ). pcm_of m.frames m'.log ++ xs) none ∙ append-nil (pcm_of m.frames m'.log)))
     sent)
+
+-- what a round asks and gives that is played since one more was asked for
+pub round_asked : {between : Tallied → Type 0} {going over pre room played : Type 0} {post : Bool → Type 0} {tally : Tallied} {answer : Bool} → Asks between going over pre post → (between tally → going → room → played) → between tally → post answer → answer ≡ true → room → played
+round_asked asks plays so answered yes room = plays so (((asks _ so).1 _ answered).0 yes) room

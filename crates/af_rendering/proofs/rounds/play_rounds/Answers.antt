@@ -4,7 +4,7 @@ use Rattle.af_rendering.proofs.Common.{LeavesFront, Roomy, SessionState, pcm_of}
 use Rattle.af_session.specs.declared.room.Room.{Room}
 use Rattle.af_session.proofs.RoomsKept.{kept_on}
 use Rattle.af_rendering.proofs.Outgoing.{on_err, on_ok, stays_at}
-use Rattle.af_rendering.proofs.Waiting.{all_out, ends_on, front_held, wait_on}
+use Rattle.af_rendering.proofs.Waiting.{all_out, ends_on, front_held, round_asked, wait_on}
 use Rattle.af_rendering.proofs.rounds.play_rounds.Goals as goal
 
 -- it may be asked whether one more is to be played
@@ -15,29 +15,29 @@ goes_on-requires g c = let inv = c.loop-kept.invariant in (c.requires.asks _ _ _
 pub round-requires : goal.round-requires
 round-requires g c =
     let inv = c.loop-kept.invariant in
-    (c.requires.plays _ _ _ inv.between (((c.requires.asks _ _ _ inv.between).1 _ c.goes_on.ensures).0 c.loop-kept-test.true) inv.room).0
+    (round_asked (c.requires.asks _ _) (c.requires.plays _ _ _) inv.between c.goes_on.ensures c.loop-kept-test.true inv.room).0
 
 pub loop-kept-smaller : goal.loop-kept-smaller
 loop-kept-smaller g c =
     let inv = c.loop-kept.invariant in
-    ((c.requires.plays _ _ _ inv.between (((c.requires.asks _ _ _ inv.between).1 _ c.goes_on.ensures).0 c.loop-kept-test.true) inv.room).1 _ _ _ _ c.in_ok-round.ensures).fewer
+    ((round_asked (c.requires.asks _ _) (c.requires.plays _ _ _) inv.between c.goes_on.ensures c.loop-kept-test.true inv.room).1 _ _ _ _ c.in_ok-round.ensures).fewer
 
 pub returns-in_err-round-clause-came : goal.returns-in_err-round-clause-came
 returns-in_err-round-clause-came g c =
     let inv = c.loop-kept.invariant in
-    ((c.requires.plays _ _ _ inv.between (((c.requires.asks _ _ _ inv.between).1 _ c.goes_on.ensures).0 c.loop-kept-test.true) inv.room).1 _ _ _ _ c.round.ensures).came
+    ((round_asked (c.requires.asks _ _) (c.requires.plays _ _ _) inv.between c.goes_on.ensures c.loop-kept-test.true inv.room).1 _ _ _ _ c.round.ensures).came
 
 pub returns-in_err-round-clause-sizes : goal.returns-in_err-round-clause-sizes
 returns-in_err-round-clause-sizes g c =
     let inv = c.loop-kept.invariant in
-    let did = (c.requires.plays _ _ _ inv.between (((c.requires.asks _ _ _ inv.between).1 _ c.goes_on.ensures).0 c.loop-kept-test.true) inv.room).1 _ _ _ _ c.round.ensures in
+    let did = (round_asked (c.requires.asks _ _) (c.requires.plays _ _ _) inv.between c.goes_on.ensures c.loop-kept-test.true inv.room).1 _ _ _ _ c.round.ensures in
     kept_on c.args.room.now c.loop-kept.room _ inv.kept did.room
 
 -- the bytes of the round wait behind those that waited
 pub returns-in_err-round-clause-left : goal.returns-in_err-round-clause-left
 returns-in_err-round-clause-left g c = λ told.
     let inv = c.loop-kept.invariant in
-    let did = (c.requires.plays _ _ _ inv.between (((c.requires.asks _ _ _ inv.between).1 _ c.goes_on.ensures).0 c.loop-kept-test.true) inv.room).1 _ _ _ _ c.round.ensures in
+    let did = (round_asked (c.requires.asks _ _) (c.requires.plays _ _ _) inv.between c.goes_on.ensures c.loop-kept-test.true inv.room).1 _ _ _ _ c.round.ensures in
     let next : SessionState = c.round.new.arg3 in
     let room : Room = c.round.new.arg4 in
     let base = g.S.Store.files c.args.store.now in
@@ -51,13 +51,13 @@ returns-in_err-round-clause-left g c = λ told.
 pub overflow_mul-most : goal.overflow_mul-most
 overflow_mul-most g c =
     let inv = c.loop-kept.invariant in
-    let did = (c.requires.plays _ _ _ inv.between (((c.requires.asks _ _ _ inv.between).1 _ c.goes_on.ensures).0 c.loop-kept-test.true) inv.room).1 _ _ _ _ c.round.ensures in
+    let did = (round_asked (c.requires.asks _ _) (c.requires.plays _ _ _) inv.between c.goes_on.ensures c.loop-kept-test.true inv.room).1 _ _ _ _ c.round.ensures in
     omega (arith, c.len-most.ensures, did.room.buffer, inv.room.buffer, inv.room.small)
 
 pub loop-kept-preserved : goal.loop-kept-preserved
 loop-kept-preserved g c =
     let inv = c.loop-kept.invariant in
-    let did = (c.requires.plays _ _ _ inv.between (((c.requires.asks _ _ _ inv.between).1 _ c.goes_on.ensures).0 c.loop-kept-test.true) inv.room).1 _ _ _ _ c.in_ok-round.ensures in
+    let did = (round_asked (c.requires.asks _ _) (c.requires.plays _ _ _) inv.between c.goes_on.ensures c.loop-kept-test.true inv.room).1 _ _ _ _ c.in_ok-round.ensures in
     let next : SessionState = c.round.new.arg3 in
     let room : Room = c.round.new.arg4 in
     let sent = c.in_ok-send_beyond.ensures in
@@ -85,18 +85,18 @@ loop-kept-preserved g c =
 pub returns-in_err-send_beyond-clause-came : goal.returns-in_err-send_beyond-clause-came
 returns-in_err-send_beyond-clause-came g c =
     let inv = c.loop-kept.invariant in
-    ((c.requires.plays _ _ _ inv.between (((c.requires.asks _ _ _ inv.between).1 _ c.goes_on.ensures).0 c.loop-kept-test.true) inv.room).1 _ _ _ _ c.in_ok-round.ensures).came
+    ((round_asked (c.requires.asks _ _) (c.requires.plays _ _ _) inv.between c.goes_on.ensures c.loop-kept-test.true inv.room).1 _ _ _ _ c.in_ok-round.ensures).came
 
 pub returns-in_err-send_beyond-clause-sizes : goal.returns-in_err-send_beyond-clause-sizes
 returns-in_err-send_beyond-clause-sizes g c =
     let inv = c.loop-kept.invariant in
-    let did = (c.requires.plays _ _ _ inv.between (((c.requires.asks _ _ _ inv.between).1 _ c.goes_on.ensures).0 c.loop-kept-test.true) inv.room).1 _ _ _ _ c.in_ok-round.ensures in
+    let did = (round_asked (c.requires.asks _ _) (c.requires.plays _ _ _) inv.between c.goes_on.ensures c.loop-kept-test.true inv.room).1 _ _ _ _ c.in_ok-round.ensures in
     kept_on c.args.room.now c.loop-kept.room _ inv.kept (record { buffer = did.room.buffer; bytes = c.in_err-send_beyond.ensures.room ∙ did.room.bytes; released = did.room.released })
 
 pub returns-in_err-send_beyond-clause-left : goal.returns-in_err-send_beyond-clause-left
 returns-in_err-send_beyond-clause-left g c = λ told.
     let inv = c.loop-kept.invariant in
-    let did = (c.requires.plays _ _ _ inv.between (((c.requires.asks _ _ _ inv.between).1 _ c.goes_on.ensures).0 c.loop-kept-test.true) inv.room).1 _ _ _ _ c.in_ok-round.ensures in
+    let did = (round_asked (c.requires.asks _ _) (c.requires.plays _ _ _) inv.between c.goes_on.ensures c.loop-kept-test.true inv.room).1 _ _ _ _ c.in_ok-round.ensures in
     let next : SessionState = c.round.new.arg3 in
     let room : Room = c.round.new.arg4 in
     let base = g.S.Store.files c.args.store.now in
