@@ -38,4 +38,4 @@ ends_on m m' same bytes bytes' rest keeps sent (front, whole) = subst (λ (n : �
 
 -- what a round asks and gives that is played since one more was asked for
 pub round_asked : {between : Tallied → Type 0} {going over pre room played : Type 0} {post : Bool → Type 0} {tally : Tallied} {answer : Bool} → Asks between going over pre post → (between tally → going → room → played) → between tally → post answer → answer ≡ true → room → played
-round_asked asks plays so answered yes room = plays so (((asks _ so).1 _ answered).0 yes) room
+round_asked asks plays so answered on room = plays so (((asks _ so).1 _ answered).0 on) room
