@@ -17,7 +17,8 @@ use Rattle.af_normal.proofs.LegalMade.{IsMade, going_l, done, mix, told, tells, 
 use Rattle.af_normal.proofs.OrderStages.{Added, acked_list}
 use Rattle.af_normal.proofs.OrderTurn.{edited_mutated, served_mutator, served_tied, served_open}
 use Rattle.af_normal.proofs.LegalLent.{Lent, all_lent}
-use Rattle.af_normal.proofs.OrderEdits.{comer_inside, comer_home}
+use Rattle.af_life.proofs.SoundEdits.{comer_inside, comer_home}
+use Rattle.af_normal.proofs.Basics.{some_there}
 
 -- ## The push
 
@@ -158,10 +159,6 @@ module _ (links : Links) (t : ℕ) (x : NormalState) (ack : Bool) (report : Repo
   tracks_s : s.tracks ≡ served_tracks cs ks (kept_of x) e
   tracks_s = (done links t x ack report room push y made).tracks ∙ ap (λ (m : NormalKept). served_to cs ks (turns links t x ack report room push y made) m.tracks (length m.tracks)) (kept_l links t x ack report room push y made)
 
-  some_of : (f : Option ServerState) → is_some f ≡ true → (r : ServerState) × (f ≡ Some r)
-  some_of None e = absurd (true≢false (sym e))
-  some_of (Some r) e = (r, refl)
-
   not_mixed : (b d : Bool) → b ≡ true → (not b && d) ≡ false
   not_mixed true d e = refl
   not_mixed false d e = absurd (true≢false (sym e))
@@ -172,7 +169,7 @@ module _ (links : Links) (t : ℕ) (x : NormalState) (ack : Bool) (report : Repo
       let enters : must_enter (track_at s.tracks i) ≡ true = ap (λ (ts : List TrackKept). must_enter (track_at ts i)) tracks_s ∙ due in
       let tied : IsTied links s = served_tied links t l (going_l links t x ack report room push y made) report s made.goes_on.rest.serves made.own in
       let lt : i < length s.tracks = comer_inside (kept_of s) tied.sound (setup_of s) i nothing_heard enters in
-      let there = some_of (stream_at s.streams i) (tied.proxies.there i lt ∙ comer_home (kept_of s) tied.sound (setup_of s) i nothing_heard enters) in
+      let there = some_there (stream_at s.streams i) (tied.proxies.there i lt ∙ comer_home (kept_of s) tied.sound (setup_of s) i nothing_heard enters) in
       let away = waiting.away i lt enters in
       let p_is : IsTied links p = p_tied links t x ack report room push y made in
       let away_p : is_home (track_at p.tracks i).holder ≡ false = ap (λ (ts : List TrackKept). is_home (track_at ts i).holder) tracks_p ∙ away.1 in
