@@ -180,9 +180,6 @@ module _ (c : Setup) (k : Learnt) where
           by_ended true d f = absurd (true≢false f)
           by_ended false d f = refl
 
-      some_same : {X : Type 0} (o : Option X) (u v : X) → o ≡ Some u → o ≡ Some v → u ≡ v
-      some_same o u v e f = let g : Some u ≡ Some v = sym e ∙ f in cc
-
       -- what serving the stream proxy leaves
       abbrev after : TrackSeen → ServerState → Option ServerState → HandSide → Serving
       after seen command stream flag = record {

@@ -1,6 +1,6 @@
 -- What comes home by a look at the acknowledgement, and that the order stays.
 use Rattle.std.proofs.Common.{◌≡◌, ◌≢◌, ℕ, zero, suc, ◌<◌, ◌≤◌, ◌&&◌, not, Bool, true, false, if◌then◌else◌, true≢false, is_some, MatchBool, MatchOption, ◌⊎◌, sym, refl, ap, subst, ◌∙◌, inl, inr, List, length, map, Option, Some, None, ⊎_elim, length-set, get_or-set_same, get_or-set_other, arith}
-use Rattle.af_normal.proofs.Common.{FastState, Home, InDraft, InSlot, IsStreamOf, Links, Made, ServerState, TrackKept, after_ack, and_none, at, at_here, at_other, away_holds, both_true, carries, cases_eq, comes_home, ext_get_or, get_or-map, inside, is_home, is_out, is_returning, length-map, never_true, new_track, no, none_and, returning_away, slice_set, slot_number, slot_of, slot_of_away, slots, some_same, track_at, welcomed}
+use Rattle.af_normal.proofs.Common.{FastState, Home, InDraft, InSlot, IsStreamOf, Links, Made, ServerState, TrackKept, after_ack, and_none, and_true, at, at_here, at_other, away_holds, both_true, carries, cases_eq, comes_home, ext_get_or, get_or-map, inside, is_home, is_out, is_returning, length-map, never_true, new_track, no, none_and, returning_away, slice_set, slot_number, slot_of, slot_of_away, slots, some_same, track_at, welcomed}
 use Rattle.af_normal.specs.Coming.{takes_back, has_back, Welcomes, WelcomesTo}
 use Rattle.af_normal.specs.Mixing.{stream_at}
 use Rattle.af_normal.specs.Order.{AreThere, IsTied}
@@ -155,23 +155,13 @@ module _ (links : Links) (x : NormalState) (tied : IsTied links x) (held : InDra
       abbrev off : Bool
       off = is_out out (slot_number (track_at tracks i)) && not (is_some (at returned (slot_number (track_at tracks i))))
 
-      on_still : (b d : Bool) → d ≡ false → (b && not d) ≡ b
-      on_still true true e = absurd (true≢false e)
-      on_still true false e = refl
-      on_still false d e = refl
-
-      on_no_more : (b d : Bool) → d ≡ true → (b && not d) ≡ false
-      on_no_more true true e = refl
-      on_no_more true false e = no e
-      on_no_more false d e = refl
-
       rests : at returned (slot_number (track_at tracks i)) ≡ None → Came (suc i) tracks streams (slice_set returned (slot_number (track_at tracks i)) None) (slice_set out (slot_number (track_at tracks i)) off)
       rests none = stays (slice_set returned k None) (slice_set out k off)
           (record {
             sound = c.tied_is.sound;
             sizes = c.tied_is.sizes;
             proxies = c.tied_is.proxies;
-            out = out_same tracks out k off high (on_still (is_out out k) (is_some (at returned k)) (ap is_some none)) c.tied_is.out;
+            out = out_same tracks out k off high (ap (λ (b : Bool). is_out out k && not b) (ap is_some none) ∙ and_true (is_out out k)) c.tied_is.out;
             linked = c.tied_is.linked;
           })
           (and_none (is_returning (track_at x.tracks i).holder) (not (carries last (slot_at i))) (sym some_is ∙ ap is_some none))
@@ -224,7 +214,7 @@ module _ (links : Links) (x : NormalState) (tied : IsTied links x) (held : InDra
               pipe_is = c.tied_is.sizes.pipe_is;
             };
             proxies = record { there = there; streams_of = streams_of; commands_of = c.tied_is.proxies.commands_of };
-            out = out_less (kept_of (state tracks streams returned out)) c.tied_is.sound out c.tied_is.out i home refl lt high away refl off (on_no_more (is_out out k) (is_some (at returned k)) (ap is_some is));
+            out = out_less (kept_of (state tracks streams returned out)) c.tied_is.sound out c.tied_is.out i home refl lt high away refl off (and_none (is_out out k) (not (is_some (at returned k))) (ap (λ (o : Option ServerState). not (is_some o)) is));
             linked = c.tied_is.linked;
           };
           long = length-set tracks i home ∙ c.long;
