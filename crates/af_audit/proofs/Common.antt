@@ -38,9 +38,6 @@ pub use Rattle.af_judge.proofs.LooksAnswer.{Alike, alike, looks_alike, step_alik
 pub use Rattle.af_judge.proofs.QueueRun.{goes_called, goes_ended, queue_first, queue_loaded, queue_turned}
 pub use Rattle.af_judge.proofs.SharedEntries.{AreOfPushed, entries_beside, entries_go, entries_queue, form_opens}
 pub use Rattle.af_judge.proofs.SharedFollows.{beside_called, beside_ended, beside_first, beside_loaded, beside_met, beside_turned, queue_met_so, shared_judged}
-pub use Rattle.af_judge.proofs.SoundLives.{goes_served, grew_command, grew_report, is_absent, opened}
-pub use Rattle.af_judge.proofs.SoundSlots.{sound_served}
-pub use Rattle.af_judge.proofs.SoundTurns.{sound_acked}
 pub use Rattle.af_judge.proofs.StatesKept.{at_each, at_last, drafts_same}
 pub use Rattle.af_judge.proofs.StatesRuns.{RunKept, before_same, fits_of, kept_after_turn, kept_before, kept_new, kept_round, scales_of}
 pub use Rattle.af_judge.proofs.TracksTold.{keeps_of, shapes_called, sides_called, turn_told}
@@ -63,6 +60,9 @@ pub use Rattle.af_judge.specs.TurnJudged.{TurnJudged}
 pub use Rattle.af_judge.specs.declared.track_judge.TrackJudge.{TrackJudge}
 pub use Rattle.af_life.proofs.Basics.{at_new, at_set, ready_life, set_each, slot_of_away, welcomed_at}
 pub use Rattle.af_life.proofs.Lives.{acked_len, look_steps, not_yet, served_len, turn_len}
+pub use Rattle.af_life.proofs.SoundLives.{goes_served, grew_command, grew_report, is_absent, opened}
+pub use Rattle.af_life.proofs.SoundSlots.{sound_served}
+pub use Rattle.af_life.proofs.SoundTurns.{sound_acked}
 pub use Rattle.af_life.specs.Commands.{Row, applies, commands, first_effect}
 unfoldable pub use Rattle.af_life.specs.Commands.{by_command, starts}
 pub use Rattle.af_life.specs.Drained.{AreLegal, DrainedIsReached, IsDrainedBy, LifeStep, StoppedAt, Turned, cut, heard_of, kept_after, life_of, looks_steps, most_heard, reports_drained, steps_of, stops, told}

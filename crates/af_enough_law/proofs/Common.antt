@@ -24,18 +24,18 @@ pub use Rattle.af_base.specs.declared.turn.CommandLook.{CommandLook}
 pub use Rattle.af_enough.specs.Enough.{HasEnoughCycles, all_play_through, enough_rounds, greatest_cost, most_gains, op_cost, play_through, portion, track_cost}
 pub use Rattle.af_judge.proofs.Basics.{begins_ended, calls_pipe, calls_states, client_append, each_at, each_long, ends_part, ends_pipe, ends_states, hand_puts, if_true, legal_cut, loaded_pipe, loaded_states, met_many, met_normal, met_states, new_at, new_long, not_lent, or_left, push_draft, push_tracks, report_ends, server_append, server_put, some_is, status_client, status_hand, tally_none, told_each}
 pub use Rattle.af_judge.proofs.BlocksTold.{client-client, client-hand, client-server, hand-client, server-client}
-pub use Rattle.af_judge.proofs.DraftBits.{attached_else, detached_else, detached_here, initial_none, slot_else, slot_here}
 pub use Rattle.af_judge.proofs.QueueSteps.{ones_met, ones_more, ones_stay, twos_met, twos_more, twos_stay}
-pub use Rattle.af_judge.proofs.SoundEdits.{apart, comer_holds, comer_inside, comer_slot, leaver_slot}
-pub use Rattle.af_judge.proofs.SoundLives.{Goes, goes_served}
-pub use Rattle.af_judge.proofs.SoundSlots.{sound_served}
-pub use Rattle.af_judge.proofs.SoundTurns.{sound_acked, sound_edits, sound_new, sound_turn}
 pub use Rattle.af_judge.proofs.Spelled.{spelled_turn}
 pub use Rattle.af_judge.proofs.StatesRuns.{ends_same, scales_of}
 pub use Rattle.af_judge.proofs.TracksTold.{shapes_called, sides_called}
 pub use Rattle.af_judge.specs.Tracks.{AreSpelled, IsSpelled}
 pub use Rattle.af_life.proofs.Basics.{at_here, at_new, at_other, at_set, each_set, lent_away, out_of, ready_life, set_each, takes_len, welcomed_at}
+pub use Rattle.af_life.proofs.DraftBits.{attached_else, detached_else, detached_here, initial_none, slot_else, slot_here}
 pub use Rattle.af_life.proofs.Lives.{acked_len, edits_len, not_yet, served_len, turn_len}
+pub use Rattle.af_life.proofs.SoundEdits.{apart, comer_holds, comer_inside, comer_slot, leaver_slot}
+pub use Rattle.af_life.proofs.SoundLives.{Goes, goes_served}
+pub use Rattle.af_life.proofs.SoundSlots.{sound_served}
+pub use Rattle.af_life.proofs.SoundTurns.{sound_acked, sound_edits, sound_new, sound_turn}
 pub use Rattle.af_life.specs.Commands.{Row, commands, first_effect}
 unfoldable pub use Rattle.af_life.specs.Commands.{by_command, starts}
 pub use Rattle.af_life.specs.Edits.{LegalPush, after_ack, after_push, comes_home, edited_to, entered, commands_exit, is_over, lent_by, must_enter, must_leave}

@@ -4,8 +4,8 @@ use Rattle.af_journal_laws.proofs.Common.{EntrySeen, FastState, IsScript, IsTurn
 use Rattle.af_life.specs.Edits.{after_ack}
 use Rattle.af_life.specs.Sound.{IsSound}
 use Rattle.af_model.specs.StateQueue.{slot_of}
-use Rattle.af_judge.proofs.SoundSlots.{sound_served}
-use Rattle.af_judge.proofs.SoundTurns.{sound_acked}
+use Rattle.af_life.proofs.SoundSlots.{sound_served}
+use Rattle.af_life.proofs.SoundTurns.{sound_acked}
 use Rattle.af_judge.proofs.StatesRuns.{RunKept, SameNormal, ends_same, kept_beside, kept_turn, load_same, met_same}
 use Rattle.af_audit.proofs.Attached.{attached_then}
 use Rattle.af_audit.proofs.Bounded.{report_bounded}

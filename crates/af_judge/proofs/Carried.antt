@@ -4,11 +4,11 @@ use Rattle.af_judge.proofs.Common.{Busy, Clean, Command, FastState, FastTrack, H
 use Rattle.af_judge.proofs.Basics.{some_number}
 use Rattle.af_judge.specs.Entries.{CarriesApart, CarriesWithin}
 use Rattle.af_judge.specs.StatesKept.{Carried, CarriesBy, IsAway, IsLent, SameSlots}
-use Rattle.af_judge.proofs.DraftBits.{attached_else, detached_else, detached_here, initial_none, slot_else, slot_here}
-use Rattle.af_judge.proofs.SoundEdits.{comer_holds, comer_home, comer_inside, comer_slot, leaver_slot, sound_go, sound_lend}
-use Rattle.af_judge.proofs.SoundLives.{Goes, goes_served}
-use Rattle.af_judge.proofs.SoundSlots.{sound_served}
-use Rattle.af_judge.proofs.SoundTurns.{sound_acked, sound_new, sound_takes}
+use Rattle.af_life.proofs.DraftBits.{attached_else, detached_else, detached_here, initial_none, slot_else, slot_here}
+use Rattle.af_life.proofs.SoundEdits.{comer_holds, comer_home, comer_inside, comer_slot, leaver_slot, sound_go, sound_lend}
+use Rattle.af_life.proofs.SoundLives.{Goes, goes_served}
+use Rattle.af_life.proofs.SoundSlots.{sound_served}
+use Rattle.af_life.proofs.SoundTurns.{sound_acked, sound_new, sound_takes}
 
 -- ## Tracks that stay away
 

@@ -69,11 +69,6 @@ pub mod FastBeside
 pub mod ReportFound
 pub mod SharedEntries
 pub mod FastClear
-pub mod DraftBits
-pub mod SoundLives
-pub mod SoundSlots
-pub mod SoundEdits
-pub mod SoundTurns
 pub mod Carried
 pub mod StatesKept
 pub mod StatesRuns

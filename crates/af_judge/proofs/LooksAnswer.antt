@@ -1,6 +1,6 @@
 -- Looks at a command block are legal by some fronts exactly if each answers by the front by which it is judged.
 use Rattle.std.proofs.Common.{◌≡◌, ℕ, ◌+◌, ◌^◌, ◌≤◌, ◌==◌, ◌&&◌, ◌||◌, not, min, nat_lt, Bool, true, false, true≢false, if◌then◌else◌, is_some, fold, refl, sym, ap, ◌∙◌, subst, List, [], ◌∷◌, ◌++◌, Option, Some, None, arith}
-use Rattle.af_judge.proofs.Common.{CommandLook, IsSeen, Listed, LooksBy, MatchOption, Seen, ServerEvent, ServerKept, Shape, SlotEntry, ahead, as_slot, both, command_events, dropped_by, front_by_answer, front_of, is_noticed, is_own_inside, kept, leaves_open, look_at, look_events, not_true, outside, own_front, server_begins, server_keeps, server_kept, shows_command, takes_command, wrapped}
+use Rattle.af_judge.proofs.Common.{CommandLook, IsSeen, Listed, LooksBy, MatchOption, Seen, ServerEvent, ServerKept, Shape, SlotEntry, ahead, as_slot, both, command_events, dropped_by, front_by_answer, front_of, is_noticed, is_own_inside, kept, leaves_open, look_at, look_events, not_true, or_true, outside, own_front, server_begins, server_keeps, server_kept, shows_command, takes_command, wrapped}
 use Rattle.af_base.specs.declared.event.ServerEvent.TheVariants as server
 use Rattle.af_base.specs.declared.seen.Seen.TheVariants as seen
 use Rattle.af_judge.proofs.LookFront.{answers_so, flushed_so, open_so, noticed_new}
@@ -118,10 +118,6 @@ module _ (k : Shape) where
       none = ap (λ (b : Bool). b && (k.wrap == 0 || not (nat_lt k.frames (ahead g rear)))) (noticed_new (not (flush == a.flush)) (k.wrap == 0) (nat_lt k.frames (ahead f rear)) t.noticed f_inside)
   own_tells a asked flush rear g (seen.Flushed dropped) opens inside f t = record { noticed = some; shut = ap (λ (b : Bool). if b then None else outside k.frames g rear) some }
     where
-      or_true : (b : Bool) → (b || true) ≡ true
-      or_true true = refl
-      or_true false = refl
-
       some : is_noticed k (not (flush == a.flush)) rear g ≡ true
       some = ap (λ (b : Bool). b && (k.wrap == 0 || not (nat_lt k.frames (ahead g rear)))) (both (not (flush == a.flush)) _ t.noticed).0
           ∙ ap (λ (b : Bool). k.wrap == 0 || not b) inside ∙ or_true (k.wrap == 0)

@@ -1,7 +1,9 @@
 -- Whether looks are due, by those that were gone over.
-use Rattle.std.proofs.Common.{◌≡◌, ℕ, suc, ◌+◌, ◌-◌, ◌<◌, ◌≤◌, ◌==◌, Bool, true, false, if◌then◌else◌, ◌&&◌, sym, refl, ap, ◌∙◌, subst, List, [], ◌∷◌, ◌++◌, append-nil, length, take, drop, get_or, Option, zero, arith, length-take-le, drop-cons}
-use Rattle.af_judge.proofs.Common.{CommandLook, TrackKept, after_all, all_go_on, are_due, are_due-go, both as first, ended, goes_on, is_shut, length-drop, must_wait, nat_tests, obeyed, shows_command, take-append-drop, take_all, take_more}
+use Rattle.std.proofs.Common.{◌≡◌, ℕ, suc, ◌+◌, ◌-◌, ◌<◌, ◌≤◌, ◌==◌, Bool, true, false, if◌then◌else◌, sym, refl, ap, ◌∙◌, subst, List, [], ◌∷◌, append-nil, length, take, drop, get_or, Option, zero, arith, length-take-le, drop-cons}
+use Rattle.af_judge.proofs.Common.{CommandLook, TrackKept, after_all, all_go_on, are_due, are_due-go, goes_on, length-drop, nat_tests, take-append-drop, take_all, take_more}
 use Rattle.af_life.specs.Obeys.{after_look}
+use Rattle.af_life.proofs.LooksSoFar.{after-push, still_on}
+use Rattle.af_life.proofs.Settles.{settles_one}
 
 last : (made n left : ℕ) → made < n → left ≡ n - suc made → (left == 0) ≡ (made + 1 == n)
 last made n left lt e = grind (arith, nat_tests, lt, e)
@@ -10,33 +12,8 @@ whole : (n left : ℕ) → 64 ≡ n + left → (left == 0) ≡ (n == 64)
 whole n left e = grind (arith, nat_tests, e)
 
 module _ (given : Option ℕ) (flush_seen : ℕ) where
-  -- a look that goes on joins those that do
-  still_on : (s : TrackKept) (looks : List CommandLook) (look : CommandLook) → all_go_on given flush_seen looks s ≡ true
-      → goes_on look (after_look given flush_seen look (after_all given flush_seen s looks)) ≡ true → all_go_on given flush_seen (looks ++ look ∷ []) s ≡ true
-  still_on s [] look h on = ap (λ (b : Bool). b && true) on
-  still_on s (l ∷ looks) look h on = let t : TrackKept = after_look given flush_seen l s in let both = first (goes_on l t) (all_go_on given flush_seen looks t) h in
-      ap (λ (b : Bool). b && all_go_on given flush_seen (looks ++ look ∷ []) t) both.0 ∙ still_on t looks look both.1 on
-
-  after_push : (s : TrackKept) (looks : List CommandLook) (look : CommandLook) → after_all given flush_seen s (looks ++ look ∷ []) ≡ after_look given flush_seen look (after_all given flush_seen s looks)
-  after_push s [] look = refl
-  after_push s (l ∷ looks) look = after_push (after_look given flush_seen l s) looks look
-
-  -- a look settles one command at most
-  settles_one : (look : CommandLook) (s : TrackKept) → (after_look given flush_seen look s).settled ≤ s.settled + 1
-  unfolding after_look obeyed
-  settles_one look s = by_look (shows_command look.seen) (is_shut look.seen)
-    where
-      by_wait : (b : Bool) (t u : TrackKept) (n : ℕ) → t.settled ≤ n → u.settled ≤ n → (if b then t else u).settled ≤ n
-      by_wait true t u n e f = e
-      by_wait false t u n e f = f
-
-      by_look : (b d : Bool) → (if b then obeyed given flush_seen look.code look.argument s else if d then ended s else s).settled ≤ s.settled + 1
-      by_look true d = by_wait (must_wait flush_seen look.code look.argument s.life) _ _ (s.settled + 1) (omega arith) (omega arith)
-      by_look false true = omega arith
-      by_look false false = omega arith
-
   pub settles_more : (look : CommandLook) (t u : TrackKept) → u ≡ after_look given flush_seen look t → u.settled ≤ t.settled + 1
-  settles_more look t u e = let a = ap (λ (x : TrackKept). x.settled) e in let b = settles_one look t in omega (arith, a, b)
+  settles_more look t u e = let a = ap (λ (x : TrackKept). x.settled) e in let b = settles_one given flush_seen look t in omega (arith, a, b)
 
   module _ (looks : List CommandLook) (s : TrackKept) (made : ℕ) (none : CommandLook) (there : made < length looks) where
     so_far : (n : ℕ) → all_go_on given flush_seen (take made looks) s ≡ true
@@ -60,10 +37,10 @@ module _ (given : Option ℕ) (flush_seen : ℕ) where
       -- one look more goes on
       pub one_on : goes_on (get_or looks made none) u ≡ true → all_go_on given flush_seen (take (made + 1) looks) s ≡ true
       one_on on = subst (λ (xs : List CommandLook). all_go_on given flush_seen xs s ≡ true) (sym (take_more looks made none there))
-          (still_on s (take made looks) (get_or looks made none) all (ap (goes_on (get_or looks made none)) (sym now) ∙ on))
+          (still_on given flush_seen s (take made looks) (get_or looks made none) all (ap (goes_on (get_or looks made none)) (sym now) ∙ on))
 
       pub one_after : u ≡ after_all given flush_seen s (take (made + 1) looks)
-      one_after = now ∙ sym (ap (after_all given flush_seen s) (take_more looks made none there) ∙ after_push s (take made looks) (get_or looks made none))
+      one_after = now ∙ sym (ap (after_all given flush_seen s) (take_more looks made none there) ∙ after-push given flush_seen s (take made looks) (get_or looks made none))
 
       -- looks after one that ends them are not due
       pub stops_there : made < 64 → goes_on (get_or looks made none) u ≡ false → are_due 64 given flush_seen looks s ≡ (made + 1 == length looks)

@@ -5,7 +5,7 @@ use Rattle.af_judge.specs.Entries.{CarriesApart, CarriesWithin}
 use Rattle.af_judge.specs.QueueTold.{Follow}
 use Rattle.af_judge.specs.StatesKept.{Carried, SameSlots, StatesKept}
 use Rattle.af_judge.proofs.Carried.{carried_after_edits, carried_new, carried_turn, carries_apart, carries_within, draft_stays}
-use Rattle.af_judge.proofs.DraftBits.{initial_none, initial_state}
+use Rattle.af_life.proofs.DraftBits.{initial_none, initial_state}
 use Rattle.af_judge.proofs.NormalKept.{goes_on_so, rests_so}
 use Rattle.af_judge.proofs.StatesAt.{state_outside}
 use Rattle.af_judge.proofs.TurnEdits.{turn_changes}

@@ -8,6 +8,11 @@ pub mod Settles
 pub mod Smalls
 pub mod SmallTurns
 pub mod Weights
+pub mod DraftBits
+pub mod SoundLives
+pub mod SoundSlots
+pub mod SoundEdits
+pub mod SoundTurns
 pub mod LooksSoFar
 pub mod LooksMade
 pub mod TurnForms

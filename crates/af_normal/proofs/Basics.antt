@@ -1,10 +1,11 @@
 -- Basic lemmas that several files here, and of the crates above, cite.
-use Rattle.std.proofs.Common.{List, Option, Some, [], arith, length, suc, zero, ℕ, ◌<◌, ◌∷◌, ◌≡◌}
-use Rattle.af_normal.proofs.Common.{ServerState}
+use Rattle.std.proofs.Common.{List, None, Option, Some, [], arith, is_some, length, refl, suc, true, zero, ℕ, ◌<◌, ◌∷◌, ◌≡◌}
+use Rattle.af_normal.proofs.Common.{ServerState, no}
 use Rattle.af_normal.specs.Mixing.{stream_at}
 
-pub one_of : (a b : ServerState) → Some a ≡ Some b → a ≡ b
-one_of a b e = cc
+pub some_there : (o : Option ServerState) → is_some o ≡ true → (s : ServerState) × (o ≡ Some s)
+some_there None e = no e
+some_there (Some s) e = (s, refl)
 
 -- a place that has a stream proxy lies within the list of the stream proxies
 pub within : (streams : List (Option ServerState)) (i : ℕ) (s : ServerState) → stream_at streams i ≡ Some s → i < length streams

@@ -1,5 +1,5 @@
 -- The names of other crates that the proofs of this one cite, passed on from one place. Declares nothing.
-pub use Rattle.af_base.proofs.Basics.{and_none, at_last, both, by_bool, equal_turned, get_set_other, get_set_same, never_true, no, none_and, range_end, some_same, zero_is}
+pub use Rattle.af_base.proofs.Basics.{and_none, and_true, at_last, both, both_true, by_bool, by_test, equal_turned, get_set_other, get_set_same, never_true, no, none_and, or_false, or_true, range_end, some_at, some_same, zero_is}
 pub use Rattle.af_base.specs.Command.{code_of}
 pub use Rattle.af_base.specs.Log.{absent, count_seen, slots}
 pub use Rattle.af_base.specs.Mix.{Take, mix}

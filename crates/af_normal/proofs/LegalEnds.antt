@@ -1,6 +1,6 @@
 -- The lists of the report's reader, of the pipe and of the mutator grow by what the entry of a turn says, and all is joined.
 use Rattle.std.proofs.Common.{◌≡◌, ℕ, zero, suc, ◌+◌, ◌<◌, ◌*◌, ◌==◌, ◌&&◌, not, Bool, true, false, if◌then◌else◌, true≢false, is_some, inl, sym, refl, ap, subst, ◌∙◌, List, [], ◌∷◌, ◌++◌, append_assoc, append-nil, length, map, Option, Some, None, eq-eqb, ne_eqb, arith}
-use Rattle.af_normal.proofs.Common.{Busy, Clean, Frame, InSide, Learnt, Links, Load, Mutates, NormalKept, Push, Pushed, Pushes as Past, Report, SeesIt, ServerEvent, ServerState, Setup, StreamNames, TakeSeen, TrackKept, Turn, WasAcked, WasPushed, after_edits, asked, at, code_of, draft_commanded as with_command, cycle_events, flat_map, commands_exit, is_home, most_tracks, must_enter, mutator_list, nothing_heard, number_seen, packed_word, pipe_size, push_list, put_by, releases_of, room_by, served_to, shows, slice_get, slot_number, slot_of_away, slots, stream_list, takes_from, track_at, tracks_at}
+use Rattle.af_normal.proofs.Common.{Busy, Clean, Frame, InSide, Learnt, Links, Load, Mutates, NormalKept, Push, Pushed, Pushes as Past, Report, SeesIt, ServerEvent, ServerState, Setup, StreamNames, TakeSeen, TrackKept, Turn, WasAcked, WasPushed, after_edits, asked, at, code_of, commands_exit, cycle_events, draft_commanded as with_command, flat_map, is_home, most_tracks, must_enter, mutator_list, none_and, nothing_heard, number_seen, packed_word, pipe_size, push_list, put_by, releases_of, room_by, served_to, shows, slice_get, slot_number, slot_of_away, slots, stream_list, takes_from, track_at, tracks_at}
 use Rattle.af_base.specs.declared.event.ClientEvent.TheVariants as client
 use Rattle.af_cblk.specs.declared.view.ClientPart.{ClientPart}
 use Rattle.af_model.specs.declared.states.MutatorEvent.{MutatorEvent}
@@ -17,7 +17,8 @@ use Rattle.af_normal.proofs.LegalMade.{IsMade, going_l, done, mix, told, tells, 
 use Rattle.af_normal.proofs.OrderStages.{Added, acked_list}
 use Rattle.af_normal.proofs.OrderTurn.{edited_mutated, served_mutator, served_tied, served_open}
 use Rattle.af_normal.proofs.LegalLent.{Lent, all_lent}
-use Rattle.af_normal.proofs.OrderEdits.{comer_inside, comer_home}
+use Rattle.af_life.proofs.SoundEdits.{comer_inside, comer_home}
+use Rattle.af_normal.proofs.Basics.{some_there}
 
 -- ## The push
 
@@ -158,25 +159,17 @@ module _ (links : Links) (t : ℕ) (x : NormalState) (ack : Bool) (report : Repo
   tracks_s : s.tracks ≡ served_tracks cs ks (kept_of x) e
   tracks_s = (done links t x ack report room push y made).tracks ∙ ap (λ (m : NormalKept). served_to cs ks (turns links t x ack report room push y made) m.tracks (length m.tracks)) (kept_l links t x ack report room push y made)
 
-  some_of : (f : Option ServerState) → is_some f ≡ true → (r : ServerState) × (f ≡ Some r)
-  some_of None e = absurd (true≢false (sym e))
-  some_of (Some r) e = (r, refl)
-
-  not_mixed : (b d : Bool) → b ≡ true → (not b && d) ≡ false
-  not_mixed true d e = refl
-  not_mixed false d e = absurd (true≢false (sym e))
-
   lent_grow : (i : ℕ) → must_enter (track_at (served_tracks cs ks (kept_of x) e) i) ≡ true
       → (v : ServerState) × (at (in_queue push pushed.1 y.mutator.pending) (slot_number (track_at (served_tracks cs ks (kept_of x) e) i)) ≡ Some v) × GoesOnFrom (listed_at (stream_at l.streams i)) (stream_list cs (outside links t x ack report room push y made) e (tracks_at cs ks (kept_of x) e i) i) v
   lent_grow i due =
       let enters : must_enter (track_at s.tracks i) ≡ true = ap (λ (ts : List TrackKept). must_enter (track_at ts i)) tracks_s ∙ due in
       let tied : IsTied links s = served_tied links t l (going_l links t x ack report room push y made) report s made.goes_on.rest.serves made.own in
       let lt : i < length s.tracks = comer_inside (kept_of s) tied.sound (setup_of s) i nothing_heard enters in
-      let there = some_of (stream_at s.streams i) (tied.proxies.there i lt ∙ comer_home (kept_of s) tied.sound (setup_of s) i nothing_heard enters) in
+      let there = some_there (stream_at s.streams i) (tied.proxies.there i lt ∙ comer_home (kept_of s) tied.sound (setup_of s) i nothing_heard enters) in
       let away = waiting.away i lt enters in
       let p_is : IsTied links p = p_tied links t x ack report room push y made in
       let away_p : is_home (track_at p.tracks i).holder ≡ false = ap (λ (ts : List TrackKept). is_home (track_at ts i).holder) tracks_p ∙ away.1 in
-      let none : takes_from (mixing_of q).takes i ≡ [] = (mix links t x ack report room push y made).1.unmixed i (not_mixed (is_some (track_at p.tracks i).slot) _ (slot_of_away (track_at p.tracks i) (p_is.sound.slotted i) away_p)) in
+      let none : takes_from (mixing_of q).takes i ≡ [] = (mix links t x ack report room push y made).1.unmixed i (none_and (not (is_some (track_at p.tracks i).slot)) _ (ap not (slot_of_away (track_at p.tracks i) (p_is.sound.slotted i) away_p))) in
       let before = served_grow links t x ack report room push y made i there.0 there.1 in (
         there.0,
         ap (λ (k : ℕ). at (in_queue push pushed.1 y.mutator.pending) k) (ap (λ (ts : List TrackKept). slot_number (track_at ts i)) (sym tracks_s))

@@ -1,12 +1,12 @@
 -- Where a proxy is that was lent in a turn.
 use Rattle.std.proofs.Common.{◌≡◌, ◌≢◌, ℕ, zero, suc, ◌+◌, ◌<◌, ◌≤◌, ◌&&◌, Bool, true, false, true≢false, MatchBool, sym, refl, ap, subst, ◌∙◌, List, length, length-set, Option, Some, None, ⊎_elim, get_or-set_same, get_or-set_other, arith}
-use Rattle.af_normal.proofs.Common.{Links, Returning, ServerState, TrackKept, at, at_here, at_other, away_holds, cases_eq, entered, holds, is_home, known_by, lent_by, listed, must_enter, must_leave, nothing_heard, slice_set, slot_number, slots, track_at}
+use Rattle.af_normal.proofs.Common.{Links, Returning, ServerState, TrackKept, at, at_here, at_other, away_holds, both_first, cases_eq, entered, holds, is_home, known_by, lent_by, listed, must_enter, must_leave, nothing_heard, slice_set, slot_number, slots, track_at}
 use Rattle.af_normal.specs.Editing.{LetsGo, Lends}
 use Rattle.af_normal.specs.Mixing.{stream_at}
 use Rattle.af_normal.specs.Mutating.{EditsTrack, EditsTo}
 use Rattle.af_normal.specs.Order.{IsOpen}
 use Rattle.af_normal.specs.State.{NormalState, setup_of, kept_of}
-use Rattle.af_normal.proofs.OrderEdits.{apart, leaver_away, comer_slot, comer_inside, comer_holds}
+use Rattle.af_life.proofs.SoundEdits.{apart, leaver_away, comer_slot, comer_inside, comer_holds}
 use Rattle.af_normal.proofs.OrderStages.{edited_open}
 
 module _ (links : Links) (edits : ℕ) (x : NormalState) (begins : IsOpen links edits x) (wide : length x.mutator.pending ≡ slots) where
@@ -64,11 +64,7 @@ module _ (links : Links) (edits : ℕ) (x : NormalState) (begins : IsOpen links 
         (λ enters. absurd (true≢false (sym (home_of (track_at x.tracks i) enters) ∙ ap (λ (s : TrackKept). is_home s.holder) (sym here) ∙ away_i)))
       where
         home_of : (s : TrackKept) → must_enter s ≡ true → is_home s.holder ≡ true
-        home_of s e = first (is_home s.holder) _ e
-          where
-            first : (a b : Bool) → (a && b) ≡ true → a ≡ true
-            first true b e = refl
-            first false b e = e
+        home_of s e = both_first (is_home s.holder) _ e
 
     comes : (y : NormalState) → must_enter (track_at z.tracks i) ≡ true → Lends i z y → Lent (suc i) y
     comes y enters (server, there, l) =

@@ -1,7 +1,8 @@
 -- From the chain of serving all tracks to the definition's, track by track.
 use Rattle.std.proofs.Common.{◌≡◌, ◌≢◌, ℕ, zero, suc, ◌<◌, ◌≤◌, ◌&&◌, not, Bool, true, false, if◌then◌else◌, true≢false, MatchBool, sym, refl, ap, subst, ◌∙◌, List, [], ◌∷◌, ◌++◌, append-nil, length, length-append, length-set, Option, Some, None, ⊎_elim, get_or-set_same, get_or-set_other, arith}
-use Rattle.af_normal.proofs.Common.{CommandLook, HandSide, Learnt, LegalLooks, LegalTrack, ServerEvent, ServerState, Setup, TrackKept, TrackSeen, all_command_events, cases_eq, get_set_other, get_set_same, heard, invalid, is_found_shut, listed, nothing_seen, seen_at, served, served_to, set-get_or, slice_get, slice_get_within, slice_set, status_events, track_at, with_served, words_taken}
+use Rattle.af_normal.proofs.Common.{CommandLook, HandSide, Learnt, LegalLooks, LegalTrack, ServerEvent, ServerState, Setup, TrackKept, TrackSeen, all_command_events, by_test, cases_eq, get_set_other, get_set_same, heard, invalid, is_found_shut, listed, nothing_seen, seen_at, served, served_to, set-get_or, slice_get, slice_get_within, slice_set, status_events, track_at, with_served, words_taken}
 use Rattle.af_base.specs.declared.event.ServerEvent.TheVariants as server
+use Rattle.af_normal.proofs.Cases.{on_false, on_true}
 use Rattle.af_normal.proofs.LegalLists.{upd, upd_same, upd_other}
 use Rattle.af_normal.specs.Mixing.{stream_at}
 use Rattle.af_normal.specs.Serving.{Adds, StreamAdds, HandAdds, Recalls, Serving, ServesOne, ServesTrack, ServesTo, disabled_events, shut_events}
@@ -72,22 +73,10 @@ module _ (c : Setup) (k : Learnt) where
   prefix turns s tracks (suc i) le = ap (with_served c k (turns ++ s ∷ []) i) (prefix turns s tracks i (omega arith))
       ∙ ap (λ (e : TrackSeen). slice_set (served_to c k turns tracks i) i (served c k e.looks (served_to c k turns tracks i) i)) (seen_before turns s i (omega arith))
 
-  if_true : (b : Bool) (s t : TrackKept) → b ≡ true → (if b then s else t) ≡ s
-  if_true true s t e = refl
-  if_true false s t e = absurd (true≢false (sym e))
-
   -- a track that had ended is served by nothing
   served_ended : (looks : List CommandLook) (tracks : List TrackKept) (i : ℕ) → (track_at tracks i).life.ended ≡ true → served c k looks tracks i ≡ track_at tracks i
   unfolding served
-  served_ended looks tracks i e = if_true (track_at tracks i).life.ended _ _ e
-
-  match_true : (b : Bool) (A B : Type 0) → b ≡ true → A → MatchBool b A B
-  match_true true A B e a = a
-  match_true false A B e a = absurd (true≢false (sym e))
-
-  match_false : (b : Bool) (A B : Type 0) → b ≡ false → B → MatchBool b A B
-  match_false true A B e a = absurd (true≢false e)
-  match_false false A B e a = a
+  served_ended looks tracks i e = by_test (λ (s : TrackKept). s ≡ track_at tracks i) (track_at tracks i).life.ended _ _ (λ h. refl) (λ h. absurd (true≢false (sym e ∙ h)))
 
   -- the first i tracks had their parts
   pub record ServedTo (n : ℕ) (x z : Serving) (i : ℕ) : Type 0 where
@@ -165,7 +154,7 @@ module _ (c : Setup) (k : Learnt) where
 
           part : Part c k x (record z { turns = z.turns ++ nothing_seen ∷ [] }) i [] nothing_seen z.tracks
           part = let command = all.commands i lt in let flag = all.hands i lt in record {
-            legal = match_true (track_at z.tracks i).life.ended _ _ ended refl;
+            legal = on_true (track_at z.tracks i).life.ended _ _ ended refl;
             command = command.0;
             has_command = command.1;
             command' = command.0;
@@ -191,9 +180,6 @@ module _ (c : Setup) (k : Learnt) where
           by_ended true d f = absurd (true≢false f)
           by_ended false d f = refl
 
-      some_same : {X : Type 0} (o : Option X) (u v : X) → o ≡ Some u → o ≡ Some v → u ≡ v
-      some_same o u v e f = let g : Some u ≡ Some v = sym e ∙ f in cc
-
       -- what serving the stream proxy leaves
       abbrev after : TrackSeen → ServerState → Option ServerState → HandSide → Serving
       after seen command stream flag = record {
@@ -217,7 +203,7 @@ module _ (c : Setup) (k : Learnt) where
 
           part : Part c k x (after s.seen s.command' s.stream' s.flag') i s.attends.fronts s.seen z.tracks
           part = record {
-            legal = match_false (track_at z.tracks i).life.ended _ _ lives s.attends.legal;
+            legal = on_false (track_at z.tracks i).life.ended _ _ lives s.attends.legal;
             command = s.command;
             has_command = sym u.command ∙ s.has_command;
             command' = s.command';

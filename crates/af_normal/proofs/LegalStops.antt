@@ -1,6 +1,6 @@
 -- A turn that has ended is a legal one, leaves what the definition says, and keeps the order.
 use Rattle.std.proofs.Common.{◌≡◌, ℕ, ◌+◌, ◌&&◌, ◌||◌, Bool, true, false, if◌then◌else◌, true≢false, MatchBool, inr, sym, refl, ap, subst, ◌∙◌, List, [], ◌∷◌, ◌++◌, append-nil, length, Option, Some, arith}
-use Rattle.af_normal.proofs.Common.{IsSmall, IsSmallTurn, LegalTurn, Links, Mutates, NormalKept, Outside, ServerState, Setup, StreamNames, Turn, WasAcked, asked, ended_turn, commands_exit, learnt, mutator_list, no_report, slice_get, turn_after, turn_small}
+use Rattle.af_normal.proofs.Common.{IsSmall, IsSmallTurn, LegalTurn, Links, Mutates, NormalKept, Outside, ServerState, Setup, StreamNames, Turn, WasAcked, asked, commands_exit, ended_turn, learnt, mutator_list, no_report, slice_get, some_same, turn_after, turn_small}
 use Rattle.af_model.specs.declared.states.MutatorEvent.TheVariants as mutator
 use Rattle.af_normal.specs.AllMixed.{HasTakes}
 use Rattle.af_normal.specs.LegalTurned.{hand_events, Grows, IsLegal}
@@ -56,9 +56,6 @@ module _ (x y : NormalState) (stops : Stops x y) where
 
   legal_ended : LegalTurn (setup_of x) seen (kept_of x) ended_turn
   legal_ended = record { ends = ends; still = (λ e. refl); goes_on = (λ e. absurd (true≢false e)) }
-
-  some_same : (s t : ServerState) → Some s ≡ Some t → s ≡ t
-  some_same s t e = cc
 
   mutator_stops : (back : List (Option ServerState)) × (y.mutator.past.events ≡ x.mutator.past.events ++ mutator_list (setup_of x) (learnt seen) (kept_of x) ended_turn back [] [])
   mutator_stops = by_ended x.ended stops.looks

@@ -1,26 +1,19 @@
 -- A new mixer is in order.
 use Rattle.std.proofs.Common.{◌≡◌, ℕ, zero, suc, ◌-◌, ◌*◌, ◌<◌, ◌≤◌, Bool, true, false, true≢false, is_some, sym, refl, ap, subst, ◌∙◌, List, [], ◌∷◌, length, replicate, All, Option, Some, None, arith}
-use Rattle.af_normal.proofs.Common.{All-get_or, All-nil, AreUpTo, FastState, HandSide, InSide, IsDrafted, IsSlotted, IsSmall, IsSound, IsState, Links, Mutates, NormalTake, ReaderSide, Roomy, ServerState, Setting, StreamNames, TrackKept, TrackTurn, Turn, TurnEntry, at_new, ended_turn, holds, initial, is_home, is_out, length-map, length-replicate, most_looks, new_normal, new_small, new_track, nil_from_length, no, slice_get, slice_get_within, slots, take_seen, track_seen, turn_of}
-use Rattle.af_stateq.proofs.Start.{initial_state}
+use Rattle.af_normal.proofs.Common.{All-get_or, All-nil, AreUpTo, FastState, HandSide, InSide, IsSmall, Links, Mutates, NormalTake, ReaderSide, Roomy, ServerState, Setting, StreamNames, TrackKept, TrackTurn, Turn, TurnEntry, at_new, ended_turn, initial, is_home, is_out, length-map, length-replicate, most_looks, new_normal, new_small, new_track, nil_from_length, no, slice_get, slice_get_within, slots, take_seen, track_seen, turn_of}
+use Rattle.af_life.proofs.SoundTurns.{new_sound}
 use Rattle.af_normal.specs.Making.{TrackList, IsMade, AreNew}
 use Rattle.af_normal.specs.Mixing.{stream_at}
 use Rattle.af_normal.specs.AllMixed.{HasFrames, HasTakes}
 use Rattle.af_normal.specs.Order.{AreThere, HasTurns, IsTied, IsInOrder}
 use Rattle.af_normal.specs.Ready.{HaveRoom}
 use Rattle.af_normal.specs.State.{NormalState, kept_of}
+use Rattle.af_normal.proofs.Basics.{some_there}
 
 none_out : (n k : ℕ) → is_out (replicate n false) k ≡ false
 none_out zero k = refl
 none_out (suc n) zero = refl
 none_out (suc n) (suc k) = none_out n k
-
-pub new_sound : (n frames : ℕ) (draft : FastState) → draft ≡ initial frames → IsSound (replicate n new_track) draft
-new_sound n frames draft e = record {
-  slotted = (λ i. subst IsSlotted (sym (at_new n i)) (record { slot = no; unopened = (λ h. refl); homely = (λ h. refl) }));
-  drafted = (λ i. subst (IsDrafted draft i) (sym (at_new n i)) (record { lent = no; returning = no; own = (λ h. absurd (true≢false h)) }));
-  alone = (λ i j k h g. no (sym (ap (holds k) (at_new n i)) ∙ h));
-  state = subst IsState (sym e) (initial_state frames);
-}
 
 module _ (links : Links) (frames normal : ℕ) (tracks : TrackList) (mutator : Mutates ServerState StreamNames) (reader : ReaderSide) (pipe : InSide) (m : NormalState)
     (new : AreNew links frames normal tracks mutator reader pipe) (made : IsMade frames normal tracks mutator reader pipe m)
@@ -48,10 +41,6 @@ module _ (links : Links) (frames normal : ℕ) (tracks : TrackList) (mutator : M
     turns = 0;
   }
 
-  some_of : (o : Option ServerState) → is_some o ≡ true → (s : ServerState) × (o ≡ Some s)
-  some_of None e = no e
-  some_of (Some s) e = (s, refl)
-
   there_at : (xs : List ServerState) (i : ℕ) → i < length xs → (s : ServerState) × (slice_get xs i ≡ Some s)
   there_at [] i lt = absurd (omega arith)
   there_at (s ∷ xs) zero lt = (s, refl)
@@ -61,7 +50,7 @@ module _ (links : Links) (frames normal : ℕ) (tracks : TrackList) (mutator : M
   blocks : (length tracks.settings ≤ length links.streams.now) × (length tracks.settings ≤ length links.commands.now)
   blocks =
       let i : ℕ = length tracks.settings - 1 in
-      let stream = some_of (stream_at tracks.streams i) (All-get_or (λ (s : Option ServerState). is_some s ≡ true) tracks.streams i None (let w = whole.0 in omega arith) all) in
+      let stream = some_there (stream_at tracks.streams i) (All-get_or (λ (s : Option ServerState). is_some s ≡ true) tracks.streams i None (let w = whole.0 in omega arith) all) in
       let command = there_at tracks.commands i (let w = whole.1 in omega arith) in
       let a : i < length links.streams.now = slice_get_within links.streams.now i _ (new.streams_of i stream.0 stream.1).made in
       let b : i < length links.commands.now = slice_get_within links.commands.now i _ (new.commands_of i command.0 command.1).made in (omega arith, omega arith)

@@ -1,6 +1,6 @@
 -- One look more.
-use Rattle.std.proofs.Common.{◌≡◌, ℕ, suc, ◌+◌, ◌-◌, ◌<◌, ◌≤◌, Bool, true, false, true≢false, if◌then◌else◌, ◌&&◌, sym, refl, ap, ◌∙◌, subst, List, [], ◌∷◌, ◌++◌, append_assoc, append-nil, length, Option, arith}
-use Rattle.af_normal.proofs.Common.{CommandLook, Listed, LooksBy, ServerEvent, ServerState, Shape, TrackKept, after_all, after_look, after_looks, after_looks-go, all_command_events, all_go_on, are_due, are_due-go, as_slot, command_events, ended, goes_on, is_shut, listed, must_wait, obeyed, shows_command, words_taken}
+use Rattle.std.proofs.Common.{◌≡◌, ℕ, suc, ◌+◌, ◌-◌, ◌<◌, Bool, true, false, true≢false, if◌then◌else◌, sym, refl, ap, ◌∙◌, subst, List, [], ◌∷◌, ◌++◌, append_assoc, append-nil, length, Option, arith}
+use Rattle.af_normal.proofs.Common.{CommandLook, Listed, LooksBy, ServerEvent, ServerState, Shape, TrackKept, after_all, after_look, after_looks, after_looks-go, all_command_events, all_go_on, are_due, are_due-go, as_slot, command_events, goes_on, listed, shows_command, words_taken}
 use Rattle.af_life.proofs.LooksMade.{after_events, legal-push, events-push}
 use Rattle.af_normal.specs.Commands.{LooksOnce, LooksMade}
 
@@ -59,32 +59,3 @@ module _ (given : Option ℕ) (flush_seen : ℕ) where
 
   pub all_after : (s : TrackKept) (looks : List CommandLook) → all_go_on given flush_seen looks s ≡ true → after_looks given flush_seen looks s ≡ after_all given flush_seen s looks
   all_after s looks h = ap (λ (xs : List CommandLook). after_looks given flush_seen xs s) (sym (append-nil looks)) ∙ after_looks-go given flush_seen looks [] s h
-
-  -- a look that goes on joins those that do
-  pub still_on : (s : TrackKept) (looks : List CommandLook) (look : CommandLook) → all_go_on given flush_seen looks s ≡ true
-      → goes_on look (after_look given flush_seen look (after_all given flush_seen s looks)) ≡ true → all_go_on given flush_seen (looks ++ look ∷ []) s ≡ true
-  still_on s [] look h on = ap (λ (b : Bool). b && true) on
-  still_on s (l ∷ looks) look h on = ap (λ (b : Bool). b && all_go_on given flush_seen (looks ++ look ∷ []) (after_look given flush_seen l s)) (first (goes_on l (after_look given flush_seen l s)) _ h).0
-      ∙ still_on (after_look given flush_seen l s) looks look (first (goes_on l (after_look given flush_seen l s)) _ h).1 on
-    where
-      first : (b d : Bool) → (b && d) ≡ true → (b ≡ true) × (d ≡ true)
-      first true d e = (refl, e)
-      first false d e = absurd (true≢false (sym e))
-
-  pub after-push : (s : TrackKept) (looks : List CommandLook) (look : CommandLook) → after_all given flush_seen s (looks ++ look ∷ []) ≡ after_look given flush_seen look (after_all given flush_seen s looks)
-  after-push s [] look = refl
-  after-push s (l ∷ looks) look = after-push (after_look given flush_seen l s) looks look
-
-  -- a look settles one command at most
-  pub settles_one : (look : CommandLook) (s : TrackKept) → (after_look given flush_seen look s).settled ≤ s.settled + 1
-  unfolding after_look obeyed
-  settles_one look s = by_look (shows_command look.seen) (is_shut look.seen)
-    where
-      by_wait : (b : Bool) (t u : TrackKept) (n : ℕ) → t.settled ≤ n → u.settled ≤ n → (if b then t else u).settled ≤ n
-      by_wait true t u n e f = e
-      by_wait false t u n e f = f
-
-      by_look : (b d : Bool) → (if b then obeyed given flush_seen look.code look.argument s else if d then ended s else s).settled ≤ s.settled + 1
-      by_look true d = by_wait (must_wait flush_seen look.code look.argument s.life) _ _ (s.settled + 1) (omega arith) (omega arith)
-      by_look false true = omega arith
-      by_look false false = omega arith

@@ -1,12 +1,12 @@
 -- What comes home by a look at the acknowledgement, and that the order stays.
 use Rattle.std.proofs.Common.{◌≡◌, ◌≢◌, ℕ, zero, suc, ◌<◌, ◌≤◌, ◌&&◌, not, Bool, true, false, if◌then◌else◌, true≢false, is_some, MatchBool, MatchOption, ◌⊎◌, sym, refl, ap, subst, ◌∙◌, inl, inr, List, length, map, Option, Some, None, ⊎_elim, length-set, get_or-set_same, get_or-set_other, arith}
-use Rattle.af_normal.proofs.Common.{FastState, Home, InDraft, InSlot, IsStreamOf, Links, Made, ServerState, TrackKept, after_ack, at, at_here, at_other, away_holds, carries, cases_eq, comes_home, ext_get_or, get_or-map, inside, is_home, is_out, is_returning, length-map, never_true, new_track, no, returning_away, slice_set, slot_number, slot_of, slot_of_away, slots, track_at, welcomed}
+use Rattle.af_normal.proofs.Common.{FastState, Home, InDraft, InSlot, IsStreamOf, Links, Made, ServerState, TrackKept, after_ack, and_none, and_true, at, at_here, at_other, away_holds, both_true, carries, cases_eq, comes_home, ext_get_or, get_or-map, inside, is_home, is_out, is_returning, length-map, never_true, new_track, no, none_and, returning_away, slice_set, slot_number, slot_of, slot_of_away, slots, some_same, track_at, welcomed}
 use Rattle.af_normal.specs.Coming.{takes_back, has_back, Welcomes, WelcomesTo}
 use Rattle.af_normal.specs.Mixing.{stream_at}
 use Rattle.af_normal.specs.Order.{AreThere, IsTied}
 use Rattle.af_normal.specs.State.{NormalState, kept_of}
 use Rattle.af_normal.specs.Turning.{stream_fits}
-use Rattle.af_normal.proofs.OrderEdits.{sound_home, away_slot, apart}
+use Rattle.af_life.proofs.SoundEdits.{sound_home, away_slot, apart}
 use Rattle.af_normal.proofs.OrderOut.{out_same, out_less}
 
 -- ## One track
@@ -77,15 +77,6 @@ module _ (links : Links) (x : NormalState) (tied : IsTied links x) (held : InDra
   passed true s t u e f = absurd (true≢false e)
   passed false s t u e f = f
 
-  false_left : (b d : Bool) → b ≡ false → (b && d) ≡ false
-  false_left true d e = absurd (true≢false e)
-  false_left false d e = refl
-
-  true_both : (b d : Bool) → b ≡ true → d ≡ true → (b && d) ≡ true
-  true_both true true e f = refl
-  true_both true false e f = no f
-  true_both false d e f = no e
-
   -- a track that stays as it is
   unwelcomed : (s : TrackKept) → comes_home last s ≡ false → s ≡ welcomed last s
   unfolding welcomed
@@ -134,7 +125,7 @@ module _ (links : Links) (x : NormalState) (tied : IsTied links x) (held : InDra
     }
 
     passes : is_returning (track_at tracks i).holder ≡ false → Came (suc i) tracks streams returned out
-    passes e = stays returned out c.tied_is (false_left (is_returning (track_at x.tracks i).holder) _ (sym (ap (λ (s : TrackKept). is_returning s.holder) here) ∙ e)) (λ j le a. refl)
+    passes e = stays returned out c.tied_is (none_and (is_returning (track_at x.tracks i).holder) _ (sym (ap (λ (s : TrackKept). is_returning s.holder) here) ∙ e)) (λ j le a. refl)
         (λ back. absurd (true≢false (sym back ∙ sym (ap (λ (s : TrackKept). is_returning s.holder) here) ∙ e)))
 
     module _ (r : is_returning (track_at tracks i).holder ≡ true) where
@@ -164,32 +155,18 @@ module _ (links : Links) (x : NormalState) (tied : IsTied links x) (held : InDra
       abbrev off : Bool
       off = is_out out (slot_number (track_at tracks i)) && not (is_some (at returned (slot_number (track_at tracks i))))
 
-      on_still : (b d : Bool) → d ≡ false → (b && not d) ≡ b
-      on_still true true e = absurd (true≢false e)
-      on_still true false e = refl
-      on_still false d e = refl
-
-      on_no_more : (b d : Bool) → d ≡ true → (b && not d) ≡ false
-      on_no_more true true e = refl
-      on_no_more true false e = no e
-      on_no_more false d e = refl
-
       rests : at returned (slot_number (track_at tracks i)) ≡ None → Came (suc i) tracks streams (slice_set returned (slot_number (track_at tracks i)) None) (slice_set out (slot_number (track_at tracks i)) off)
       rests none = stays (slice_set returned k None) (slice_set out k off)
           (record {
             sound = c.tied_is.sound;
             sizes = c.tied_is.sizes;
             proxies = c.tied_is.proxies;
-            out = out_same tracks out k off high (on_still (is_out out k) (is_some (at returned k)) (ap is_some none)) c.tied_is.out;
+            out = out_same tracks out k off high (ap (λ (b : Bool). is_out out k && not b) (ap is_some none) ∙ and_true (is_out out k)) c.tied_is.out;
             linked = c.tied_is.linked;
           })
-          (both_false (is_returning (track_at x.tracks i).holder) (not (carries last (slot_at i))) (sym some_is ∙ ap is_some none))
+          (and_none (is_returning (track_at x.tracks i).holder) (not (carries last (slot_at i))) (sym some_is ∙ ap is_some none))
           (others None)
           (λ back. sym item_is ∙ none)
-        where
-          both_false : (a b : Bool) → b ≡ false → (a && b) ≡ false
-          both_false true b e = e
-          both_false false b e = refl
 
       module _ (server : ServerState) (is : at returned (slot_number (track_at tracks i)) ≡ Some server) where
         abbrev home : TrackKept
@@ -214,12 +191,9 @@ module _ (links : Links) (x : NormalState) (tied : IsTied links x) (held : InDra
         apart_from j (inl h) e = no (sym h ∙ ap (λ (n : ℕ). is_returning (track_at x.tracks n).holder) e ∙ r_is)
         apart_from j (inr le) e = omega arith
 
-        some_inj : (s t : ServerState) → Some s ≡ Some t → s ≡ t
-        some_inj s t e = cc
-
         streams_of : (j : ℕ) (s : ServerState) → stream_at (slice_set streams i (Some server)) j ≡ Some s → IsStreamOf links.streams.now j s
         streams_of j s at_j = ⊎_elim
-            (λ (e : j ≡ i). let same : server ≡ s = some_inj server s (sym (get_or-set_same streams i (Some server) None wide) ∙ ap (stream_at (slice_set streams i (Some server))) (sym e) ∙ at_j) in
+            (λ (e : j ≡ i). let same : server ≡ s = some_same server s (sym (get_or-set_same streams i (Some server) None wide) ∙ ap (stream_at (slice_set streams i (Some server))) (sym e) ∙ at_j) in
             subst (λ (n : ℕ). IsStreamOf links.streams.now n s) (sym e) (its_own i s r_is (sym item_is ∙ is ∙ ap (λ (t : ServerState). Some t) same)))
             (λ (ne : j ≢ i). c.tied_is.proxies.streams_of j s (sym (get_or-set_other streams i j (Some server) None ne) ∙ at_j))
             (cases_eq j i)
@@ -240,13 +214,13 @@ module _ (links : Links) (x : NormalState) (tied : IsTied links x) (held : InDra
               pipe_is = c.tied_is.sizes.pipe_is;
             };
             proxies = record { there = there; streams_of = streams_of; commands_of = c.tied_is.proxies.commands_of };
-            out = out_less (kept_of (state tracks streams returned out)) c.tied_is.sound out c.tied_is.out i home refl lt high away refl off (on_no_more (is_out out k) (is_some (at returned k)) (ap is_some is));
+            out = out_less (kept_of (state tracks streams returned out)) c.tied_is.sound out c.tied_is.out i home refl lt high away refl off (and_none (is_out out k) (not (is_some (at returned k))) (ap (λ (o : Option ServerState). not (is_some o)) is));
             linked = c.tied_is.linked;
           };
           long = length-set tracks i home ∙ c.long;
           done = (λ j lj. ⊎_elim
               (λ (e : j ≡ i). subst (λ (n : ℕ). track_at (slice_set tracks i home) n ≡ welcomed last (track_at x.tracks n)) (sym e)
-              (at_here tracks i home lt ∙ ap (λ (s : TrackKept). record s { holder = Home }) here ∙ come (track_at x.tracks i) (true_both (is_returning (track_at x.tracks i).holder) (not (carries last (slot_at i))) r_is (sym some_is ∙ ap is_some is))))
+              (at_here tracks i home lt ∙ ap (λ (s : TrackKept). record s { holder = Home }) here ∙ come (track_at x.tracks i) (both_true (is_returning (track_at x.tracks i).holder) (not (carries last (slot_at i))) r_is (sym some_is ∙ ap is_some is))))
               (λ (ne : j ≢ i). at_other tracks i home j ne ∙ c.done j (omega arith))
               (cases_eq j i));
           left = (λ j le. at_other tracks i home j (λ e. omega arith) ∙ c.left j (further j le));

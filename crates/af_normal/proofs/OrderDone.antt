@@ -1,6 +1,6 @@
 -- The order after a whole turn.
 use Rattle.std.proofs.Common.{◌≡◌, ℕ, ◌≤◌, Bool, is_some, inl, inr, sym, refl, ap, subst, ◌∙◌, List, [], ◌∷◌, length, Option, Some, None, arith}
-use Rattle.af_normal.proofs.Common.{FastState, IsDrafted, IsSlotted, IsSound, IsStreamOf, Links, Made, Push, Report, ServerEvent, ServerState, TakeSeen, TrackKept, after_take, asked, at_set, look_counted, fold, is_home, set_each, slice_set, takes_len, track_at}
+use Rattle.af_normal.proofs.Common.{IsSound, IsStreamOf, Links, Made, Push, Report, ServerEvent, ServerState, TakeSeen, TrackKept, after_take, asked, at_set, look_counted, fold, is_home, slice_set, takes_len, track_at}
 use Rattle.af_normal.specs.Mixing.{stream_at}
 use Rattle.af_normal.specs.Order.{AreThere, IsTied}
 use Rattle.af_normal.specs.State.{NormalState, setup_of}
@@ -8,26 +8,11 @@ use Rattle.af_normal.specs.TurnMade.{mixing_of}
 use Rattle.af_normal.proofs.LegalMade.{IsMade, PlaysBy, mix, p_tied}
 use Rattle.af_normal.proofs.LegalPlays.{StreamTakes}
 use Rattle.af_normal.proofs.OrderServed.{StaysPut, out_put}
-use Rattle.af_normal.proofs.OrderSlots.{alone_set}
+use Rattle.af_life.proofs.SoundTurns.{sound_takes}
 
 -- ## The looks that count
 
-module _ (asked : ℕ) (draft : FastState) where
-  sound_take : (tracks : List TrackKept) (take : TakeSeen) → IsSound tracks draft → IsSound (after_take asked tracks take) draft
-  sound_take tracks take h =
-      let i : ℕ = take.track in
-      let s : TrackKept = track_at tracks i in
-      let t : TrackKept = record s { own = look_counted asked take.slot.seen s.own } in record {
-        slotted = set_each (λ (j : ℕ) (x : TrackKept). IsSlotted x) tracks i t (record { slot = (h.slotted i).slot; unopened = (h.slotted i).unopened; homely = (h.slotted i).homely }) h.slotted;
-        drafted = set_each (IsDrafted draft) tracks i t (record { lent = (h.drafted i).lent; returning = (h.drafted i).returning; own = (h.drafted i).own }) h.drafted;
-        alone = alone_set tracks i t h.alone (λ n e. inl e);
-        state = h.state;
-      }
-
-  pub sound_takes : (takes : List TakeSeen) (tracks : List TrackKept) → IsSound tracks draft → IsSound (fold (after_take asked) tracks takes) draft
-  sound_takes [] tracks h = h
-  sound_takes (take ∷ takes) tracks h = sound_takes takes (after_take asked tracks take) (sound_take tracks take h)
-
+module _ (asked : ℕ) where
   stays_one : (tracks : List TrackKept) (take : TakeSeen) (j : ℕ) → StaysPut (track_at tracks j) (track_at (after_take asked tracks take) j)
   stays_one tracks take j =
       let i : ℕ = take.track in
@@ -66,7 +51,7 @@ module _ (links : Links) (t : ℕ) (x : NormalState) (ack : Bool) (report : Repo
   tracks_long = ap (λ (ts : List TrackKept). length ts) by.tracks ∙ takes_len (asked (setup_of p)) (mixing_of q).takes p.tracks
 
   put : (j : ℕ) → StaysPut (track_at p.tracks j) (track_at q.tracks j)
-  put j = subst (λ (ts : List TrackKept). StaysPut (track_at p.tracks j) (track_at ts j)) (sym by.tracks) (stays_all (asked (setup_of p)) p.mutator.draft (mixing_of q).takes p.tracks j)
+  put j = subst (λ (ts : List TrackKept). StaysPut (track_at p.tracks j) (track_at ts j)) (sym by.tracks) (stays_all (asked (setup_of p)) (mixing_of q).takes p.tracks j)
 
   there : AreThere q.tracks q.streams
   there j lt = takes_some (stream_at p.streams j) _ _ (stream_at q.streams j) (by.streams j) ∙ tied.proxies.there j (let l = tracks_long in omega arith) ∙ sym (ap is_home (put j).0)

@@ -6,8 +6,9 @@ use Rattle.af_normal.specs.Mixing.{stream_at}
 use Rattle.af_normal.specs.Mutating.{EditsTrack, MayEnter, IsEditable}
 use Rattle.af_normal.specs.Order.{AreThere, HasSizes, IsOpen}
 use Rattle.af_normal.specs.State.{NormalState, setup_of, kept_of}
-use Rattle.af_normal.proofs.OrderEdits.{leaver_away, leaver_slot, leaver_carried, leaver_inside, sound_go, comer_slot, comer_home, comer_inside, comer_holds, sound_lend, apart}
+use Rattle.af_life.proofs.SoundEdits.{leaver_away, leaver_slot, leaver_carried, leaver_inside, sound_go, comer_slot, comer_home, comer_inside, comer_holds, sound_lend, apart}
 use Rattle.af_normal.proofs.OrderOut.{out_moved, out_more}
+use Rattle.af_normal.proofs.Basics.{some_there}
 
 module _ (links : Links) (edits i : ℕ) (x : NormalState) (mutating : IsOpen links edits x) where
   abbrev k : ℕ
@@ -145,10 +146,6 @@ module _ (links : Links) (edits i : ℕ) (x : NormalState) (mutating : IsOpen li
           (λ (same : whose.0 ≡ i). absurd (true≢false (sym (comer_home (kept_of x) mutating.tied.sound (setup_of x) i own enters) ∙ ap (λ (n : ℕ). is_home (track_at x.tracks n).holder) (sym same) ∙ whose.3)))
           (λ (ne : whose.0 ≢ i). absurd (apart (kept_of x) mutating.tied.sound i whose.0 ne (comer_holds (kept_of x) mutating.tied.sound (setup_of x) i own enters) whose.3 whose.2))
           (cases_eq whose.0 i)
-
-  some_there : (o : Option ServerState) → is_some o ≡ true → (p : ServerState) × (o ≡ Some p)
-  some_there None e = no e
-  some_there (Some p) e = (p, refl)
 
   -- the track i may be edited
   pub editable : i < length x.tracks → edits < 2 ^ 62 → IsEditable i x

@@ -2,7 +2,7 @@
 use Rattle.std.proofs.Common.{◌≡◌, ◌≢◌, ℕ, ◌<◌, Bool, true, false, true≢false, sym, ap, subst, ◌∙◌, List, length, length-set, ⊎_elim, get_or-set_same, get_or-set_other, arith}
 use Rattle.af_normal.proofs.Common.{IsSound, NormalKept, TrackKept, at_here, at_other, away_holds, cases_eq, is_home, is_out, no, slice_set, slot_number, slots, track_at}
 use Rattle.af_normal.specs.Order.{IsOut}
-use Rattle.af_normal.proofs.OrderEdits.{apart}
+use Rattle.af_life.proofs.SoundEdits.{apart}
 
 module _ (out : List Bool) (k : ℕ) (b : Bool) where
   pub out_here : k < length out → is_out (slice_set out k b) k ≡ b

@@ -8,9 +8,10 @@ use Rattle.af_normal.specs.Serving.{StreamAdds}
 use Rattle.af_normal.specs.State.{NormalState, setup_of}
 use Rattle.af_normal.specs.TurnMade.{ServesAll}
 use Rattle.af_normal.specs.Turning.{learnt_by}
-use Rattle.af_normal.proofs.OrderLives.{Goes, goes_served}
-use Rattle.af_normal.proofs.OrderSlots.{sound_served}
+use Rattle.af_life.proofs.SoundLives.{Goes, goes_served}
+use Rattle.af_life.proofs.SoundSlots.{sound_served}
 use Rattle.af_normal.proofs.LegalServed.{ServedTo}
+use Rattle.af_normal.proofs.Basics.{within}
 
 -- a proxy is where it was, and one that is away keeps its slot
 abbrev pub StaysPut : TrackKept → TrackKept → Type 0
@@ -79,11 +80,6 @@ module _ (links : Links) (report : Report) (x y : NormalState) (tied : IsTied li
   there j lt = let inside : j < length x.tracks = (let l = long in omega arith) in
       still_some (stream_at x.streams j) _ (stream_at y.streams j) (done.parts j inside).streamed ∙ tied.proxies.there j inside ∙ sym (ap is_home (put j).0)
 
-  some_within : (streams : List (Option ServerState)) (j : ℕ) (s : ServerState) → stream_at streams j ≡ Some s → j < length streams
-  some_within [] j s e = absurd (true≢false (sym (ap is_some e)))
-  some_within (o ∷ streams) zero s e = omega arith
-  some_within (o ∷ streams) (suc j) s e = let l = some_within streams j s e in omega arith
-
   pub tied_served : IsTied links y
   tied_served = subst (IsTied links) (sym serves.same) (record {
     sound = subst (λ (ts : List TrackKept). IsSound ts x.mutator.draft) (sym done.tracks) (sound_served (setup_of x) k turns x.mutator.draft x.tracks (length x.tracks) tied.sound);
@@ -100,7 +96,7 @@ module _ (links : Links) (report : Report) (x y : NormalState) (tied : IsTied li
     };
     proxies = record {
       there = there;
-      streams_of = (λ j s e. (own j (let l = some_within y.streams j s e in let a = done.long.0 in let b = tied.sizes.streams_are in let d = long in omega arith)).stream_is s e);
+      streams_of = (λ j s e. (own j (let l = within y.streams j s e in let a = done.long.0 in let b = tied.sizes.streams_are in let d = long in omega arith)).stream_is s e);
       commands_of = (λ j s e. (own j (let l = slice_get_within y.commands j s e in let a = done.long.1 in let b = tied.sizes.commands_are in let d = long in omega arith)).command_is s e);
     };
     out = out_put x.tracks y.tracks x.mutator.out long put tied.out;

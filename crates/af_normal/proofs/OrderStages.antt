@@ -10,7 +10,7 @@ use Rattle.af_normal.specs.Order.{IsTied, IsOpen}
 use Rattle.af_normal.specs.State.{NormalState, kept_of}
 use Rattle.af_normal.specs.Turning.{SeesAck, Learns, with_mutator}
 use Rattle.af_normal.proofs.OrderAcks.{welcomed_kept, welcomed_tied, welcomed_same, Brings, welcomed_brings}
-use Rattle.af_normal.proofs.OrderEdits.{away_slot}
+use Rattle.af_life.proofs.SoundEdits.{away_slot}
 use Rattle.af_normal.proofs.OrderOpen.{edit_keeps}
 
 -- ## The acknowledgement

@@ -1,6 +1,6 @@
 -- The stages of a turn in a row: what each leaves, and that its numbers stay small.
 use Rattle.std.proofs.Common.{◌≡◌, inl, inr, ℕ, zero, suc, ◌*◌, ◌<◌, ◌≤◌, ◌^◌, ◌&&◌, not, Bool, true, false, true≢false, is_some, MatchBool, sym, refl, ap, subst, ◌∙◌, List, [], ◌∷◌, length, map, All, Option, Some, None, arith}
-use Rattle.af_normal.proofs.Common.{All-from_get_or, AreUpTo, CommandLook, IsServed, IsSmall, Learnt, LegalTrack, Links, Mutates, NormalKept, Push, Pushes as Past, Report, ServerState, Setup, StreamNames, TrackKept, TrackSeen, acked, acked_len, are_due, cases_lt, due_len, heard, invalid, kept, known_by, listed, most_looks, most_tracks, mutated, new_track, nothing_seen, plays, ready, seen_at, served_to, slice_get, slot_for, slot_of, track_at, track_seen}
+use Rattle.af_normal.proofs.Common.{All-from_get_or, AreUpTo, CommandLook, IsServed, IsSmall, Learnt, LegalTrack, Links, Mutates, NormalKept, Push, Pushes as Past, Report, ServerState, Setup, StreamNames, TrackKept, TrackSeen, acked, acked_len, are_due, both_first, cases_lt, due_len, heard, invalid, kept, known_by, listed, most_looks, most_tracks, mutated, new_track, not_true, nothing_seen, plays, ready, seen_at, served_to, slice_get, slot_for, slot_of, some_at, some_same, track_at, track_seen}
 use Rattle.af_normal.specs.AllMixed.{AreHome, HasTakes}
 use Rattle.af_normal.specs.Mixing.{stream_at}
 use Rattle.af_normal.specs.Mutating.{EditsAll, Pushes, begun}
@@ -73,18 +73,12 @@ module _ (links : Links) (t : ℕ) (x : NormalState) (going : IsGoing links t x)
 -- ## The tracks are served
 
 module _ (links : Links) (t : ℕ) (x : NormalState) (going : IsGoing links t x) (report : Report) (y : NormalState) (serves : ServesAll report x y) where
-  there : {X : Type 0} (xs : List X) (n : ℕ) → n ≤ length xs → (j : ℕ) → j < n → (s : X) × (slice_get xs j ≡ Some s)
-  there [] n le j lt = absurd (omega arith)
-  there (s ∷ xs) n le zero lt = (s, refl)
-  there (s ∷ xs) zero le (suc j) lt = absurd (omega arith)
-  there (s ∷ xs) (suc n) le (suc j) lt = there xs n (omega arith) j (omega arith)
-
   pub served_done : ServedTo (setup_of x) (learnt_by report x.streams) (length x.tracks) (serving_of x) (serving_of y) (length x.tracks)
   served_done = served_all (setup_of x) (learnt_by report x.streams) (length x.tracks) (serving_of x)
       (record {
         streams = (let l = going.tied.sizes.streams_are in omega arith);
-        commands = there x.commands (length x.tracks) (let l = going.tied.sizes.commands_are in omega arith);
-        hands = there x.hands (length x.tracks) (let l = going.hands.whole in omega arith);
+        commands = (λ j lt. some_at x.commands j (let l = going.tied.sizes.commands_are in omega arith));
+        hands = (λ j lt. some_at x.hands j (let l = going.hands.whole in omega arith));
       })
       (ap (map track_seen) going.none.0) (length x.tracks) (omega arith) (serving_of y) serves.tracks
 
@@ -102,12 +96,9 @@ module _ (links : Links) (t : ℕ) (x : NormalState) (going : IsGoing links t x)
     | inr le ↦ subst (λ (o : Option ServerState). Tells o s) (sym is ∙ (served_done.rest i le).stream) (refl, refl)
   ]
     where
-      same_proxy : (r q : ServerState) → Some r ≡ Some q → r ≡ q
-      same_proxy r q e = cc
-
       by_stream : (o p : Option ServerState) → p ≡ Some s → StreamAdds o (invalid (learnt_by report x.streams) (seen_at (serving_of y).turns i) (served_to (setup_of x) (learnt_by report x.streams) (serving_of y).turns x.tracks i) i) p → Tells o s
       by_stream None p e a = absurd (true≢false (ap is_some (sym e ∙ a)))
-      by_stream (Some r) p e (q, adds, is_q) = subst (Tells (Some r)) (same_proxy q s (sym is_q ∙ e))
+      by_stream (Some r) p e (q, adds, is_q) = subst (Tells (Some r)) (some_same q s (sym is_q ∙ e))
           (told_still (learnt_by report x.streams) (seen_at (serving_of y).turns i) (served_to (setup_of x) (learnt_by report x.streams) (serving_of y).turns x.tracks i) i r q adds)
 
   -- a proxy that stays at home knows the same
@@ -172,8 +163,4 @@ module _ (links : Links) (t : ℕ) (x : NormalState) (going : IsGoing links t x)
 
 -- a track that is mixed here has its proxy at home
 pub mixed_home : (links : Links) (x : NormalState) → IsTied links x → AreHome x.tracks x.streams
-mixed_home links x tied i lt mixed = tied.proxies.there i lt ∙ (tied.sound.slotted i).homely (no_slot (is_some (track_at x.tracks i).slot) (plays (track_at x.tracks i).life) mixed)
-  where
-    no_slot : (b d : Bool) → (not b && d) ≡ true → b ≡ false
-    no_slot true d e = absurd (true≢false (sym e))
-    no_slot false d e = refl
+mixed_home links x tied i lt mixed = tied.proxies.there i lt ∙ (tied.sound.slotted i).homely (not_true (is_some (track_at x.tracks i).slot) (both_first (not (is_some (track_at x.tracks i).slot)) (plays (track_at x.tracks i).life) mixed))

@@ -1,7 +1,6 @@
 -- What a turn that has begun in order may do next.
 use Rattle.std.proofs.Common.{◌++◌, reverse, ⊎_elim, get_or-set_same, ◌≡◌, ◌≢◌, ℕ, zero, suc, ◌+◌, ◌<◌, ◌≤◌, ◌==◌, Bool, true, false, true≢false, is_some, MatchBool, List, [], length, slice_get, Option, Some, None, refl, sym, ap, subst, ◌∙◌, arith}
-use Rattle.af_normal.proofs.Common.{HandSide, IsSmall, IsStreamOf, Links, NormalKept, Report, ServerState, Setup, asked, cases_eq, returning_away, server_made, slot_of_away, track_at}
-use Rattle.af_normal.proofs.Basics.{one_of}
+use Rattle.af_normal.proofs.Common.{HandSide, IsSmall, IsStreamOf, Links, NormalKept, Report, ServerState, Setup, asked, cases_eq, returning_away, server_made, slot_of_away, some_same, track_at}
 use Rattle.af_normal.specs.AllMixed.{HasTakes}
 use Rattle.af_normal.specs.Coming.{HaveSlots}
 use Rattle.af_normal.specs.Mixing.{stream_at}
@@ -78,7 +77,7 @@ module _ (links : Links) (x : NormalState) (tied : IsTied links x) (none : x.han
       let long = hands_long n z y one in
       let lt : n < length z.streams = (let s = before.streams in let e = tied.sizes.streams_are in omega arith) in
       let w : HasWhole links.streams.now n z.streams = whole_at n z before (omega arith) in
-      let is : w.stream ≡ one.stream = one_of w.stream one.stream (sym w.is_home ∙ one.is_home) in
+      let is : w.stream ≡ one.stream = some_same w.stream one.stream (sym w.is_home ∙ one.is_home) in
       let here : stream_at y.streams n ≡ Some (without_hand one.stream) = ap (λ (m : NormalState). stream_at m.streams n) one.leaves ∙ get_or-set_same z.streams n (Some (without_hand one.stream)) None lt in
       record {
         same = hands_same n z y one ∙ ap (λ (m : NormalState). record m { streams = y.streams; hands = y.hands }) before.same;
@@ -86,7 +85,7 @@ module _ (links : Links) (x : NormalState) (tied : IsTied links x) (none : x.han
         count = (let c = before.count in let l = long.2 in omega arith);
         hands = hand_more links.streams.now n z y before.count w before.hands one;
         of = λ k. ⊎_elim
-            (λ (e : k ≡ n). subst (Of y.streams) (sym e) (λ s at. subst (IsStreamOf links.streams.now n) (one_of (without_hand one.stream) s (sym here ∙ at))
+            (λ (e : k ≡ n). subst (Of y.streams) (sym e) (λ s at. subst (IsStreamOf links.streams.now n) (some_same (without_hand one.stream) s (sym here ∙ at))
             (record { made = w.fits.made ∙ ap (λ (m : ServerState). Some (server_made m.pass)) is; in_order = one.in_order })))
             (λ (ne : k ≢ n). λ s at. before.of k s (sym (hands_other n z y one k ne) ∙ at))
             (cases_eq k n);

@@ -25,6 +25,8 @@ pub use Rattle.af_entry_law.proofs.ClientRuns.{Words, called_at, called_long, ro
 pub use Rattle.af_fast.specs.Mixer.{IsInOrder, MixerState, is_over}
 pub use Rattle.af_fast.specs.Mixing.{AddsCycle, MixesOnce, Writes}
 pub use Rattle.af_life.proofs.Lives.{acked_len, served_len}
+pub use Rattle.af_life.proofs.SoundSlots.{sound_served}
+pub use Rattle.af_life.proofs.SoundTurns.{sound_acked, sound_mutated}
 pub use Rattle.af_life.specs.Edits.{LegalPush, after_ack, after_push}
 pub use Rattle.af_life.specs.Heard.{heard, learnt}
 pub use Rattle.af_life.specs.Kept.{NormalKept, Outside, Setup, asked, is_home, slot_number, track_at, track_in}
@@ -49,8 +51,6 @@ pub use Rattle.af_model.specs.Spelled.{ClientStep, Kind, client_spells, client_s
 pub use Rattle.af_model.specs.StateQueue.{carries, slot_of}
 pub use Rattle.af_model.specs.declared.shape.Shape.{Shape}
 pub use Rattle.af_normal.proofs.OrderDone.{stays_all}
-pub use Rattle.af_normal.proofs.OrderSlots.{sound_served}
-pub use Rattle.af_normal.proofs.OrderSound.{sound_acked, sound_mutated}
 pub use Rattle.af_normal.specs.LegalTurned.{GoesOnFrom, IsLegal}
 pub use Rattle.af_normal.specs.Meeting.{MeetsStream, client_knows}
 pub use Rattle.af_normal.specs.Mixing.{stream_at}

@@ -13,7 +13,7 @@ use Rattle.af_life.specs.Edits.{is_over}
 use Rattle.af_life.specs.Obeys.{holds}
 use Rattle.af_life.specs.Sound.{IsSound}
 use Rattle.af_life.specs.State.{is_among}
-use Rattle.af_judge.proofs.SoundTurns.{sound_acked}
+use Rattle.af_life.proofs.SoundTurns.{sound_acked}
 use Rattle.af_enough_law.proofs.Drafts.{next_holder, command_turned, holder_turned}
 use Rattle.af_enough_law.proofs.TrackTurns.{greeted}
 use Rattle.af_enough_law.proofs.Following.{greeted_alike, greeted_in}

@@ -22,8 +22,8 @@ pub use Rattle.af_engine.specs.Met.{MeetsAway, Spot, SpotMet, item_at, proxies_o
 pub use Rattle.af_fast.specs.Mixer.{IsInOrder, MixerState, is_over}
 pub use Rattle.af_judge.proofs.Basics.{each_long, met_many, push_tracks, report_ends, told_each}
 pub use Rattle.af_judge.proofs.BlocksTold.{client-client, client-hand, client-server, server-client}
-pub use Rattle.af_judge.proofs.SoundLives.{Grew, grew_command, grew_report, is_absent, opened}
-pub use Rattle.af_judge.proofs.SoundTurns.{Sound, sound_acked}
+pub use Rattle.af_life.proofs.SoundLives.{Grew, grew_command, grew_report, is_absent, opened}
+pub use Rattle.af_life.proofs.SoundTurns.{Sound, sound_acked}
 pub use Rattle.af_life.specs.Edits.{after_ack, after_push, comes_home, edited_to, must_enter, must_leave}
 unfoldable pub use Rattle.af_life.specs.Edits.{edited, lend, let_go, mutated, ordered, welcomed}
 pub use Rattle.af_life.specs.Heard.{heard, is_reached, is_reported, learnt, ready, slot_reported}

@@ -37,12 +37,13 @@ pub use Rattle.af_fast.specs.Mixing.{AddsCycle, Adopts, MixesOnce, Takes, Writes
 pub use Rattle.af_fast.specs.Slots.{SlotPlayed, found}
 pub use Rattle.af_judge.proofs.Basics.{ahead_behind, ahead_itself, ahead_word, each_at, each_long, met_many, new_at, push_tracks, shape_met, told_each}
 pub use Rattle.af_judge.proofs.BlocksTold.{client-client, client-hand, client-server, hand-client, server-client}
-pub use Rattle.af_judge.proofs.SoundLives.{goes_served}
-pub use Rattle.af_judge.proofs.SoundSlots.{sound_served}
-pub use Rattle.af_judge.proofs.SoundTurns.{sound_acked}
 pub use Rattle.af_latest.specs.Laws.{last_of, stores}
 pub use Rattle.af_life.proofs.Basics.{at_here, at_new, at_other, at_set, away_holds, returning_away, set_each, slot_of_away, welcomed_at}
 pub use Rattle.af_life.proofs.Lives.{acked_len, mutation_len, not_yet, served_len}
+pub use Rattle.af_life.proofs.SoundEdits.{apart, away_slot, comer_holds, comer_home, comer_inside, comer_slot, leaver_away, leaver_slot, sound_go, sound_lend}
+pub use Rattle.af_life.proofs.SoundLives.{goes_served}
+pub use Rattle.af_life.proofs.SoundSlots.{sound_served}
+pub use Rattle.af_life.proofs.SoundTurns.{Sound, sound_acked, sound_edits}
 pub use Rattle.af_life.specs.Edits.{LegalPush, after_ack, after_push, comes_home, commanded_by, commands_exit, edited_to, entered, lent_by, must_enter, must_leave, next_command}
 unfoldable pub use Rattle.af_life.specs.Edits.{edited, lend, let_go, ordered, welcomed}
 pub use Rattle.af_life.specs.Heard.{counts_in, heard, heard_at_home, heard_elsewhere, heard_with, is_reported, known_by, learnt, ready, settled_at, slot_reported}
@@ -93,9 +94,7 @@ pub use Rattle.af_model.specs.declared.states.ObserverEvent.TheVariants.{Ack, Sa
 pub use Rattle.af_normal.proofs.LegalBegins.{BegunBy, begun_by}
 pub use Rattle.af_normal.proofs.LegalPlays.{StreamTakes, mix_of, words_of}
 pub use Rattle.af_normal.proofs.OrderDone.{stays_all}
-pub use Rattle.af_normal.proofs.OrderEdits.{apart, away_slot, comer_holds, comer_home, comer_inside, comer_slot, leaver_away, leaver_slot, sound_go, sound_lend}
 pub use Rattle.af_normal.proofs.OrderServed.{StaysPut, out_put, stay_put}
-pub use Rattle.af_normal.proofs.OrderSound.{Sound, sound_edits}
 pub use Rattle.af_normal.proofs.OrderStages.{acked_kept, acked_list, acked_same, tied_acked, tied_learnt}
 pub use Rattle.af_normal.specs.Coming.{Welcomes, WelcomesTo, has_back, takes_back}
 pub use Rattle.af_normal.specs.Editing.{Lends, LetsGo, lends, lets_go}

@@ -1,8 +1,8 @@
 -- Which tracks the slots of states lead to, through a turn of the normal mixer: each leads to a track whose proxy isn't home.
 use Rattle.std.proofs.Common.{◌≡◌, ◌≢◌, ℕ, zero, suc, ◌<◌, ◌≤◌, ◌&&◌, ◌⊎◌, not, Bool, true, false, true≢false, if◌then◌else◌, List, length, map, refl, sym, ap, subst, ◌∙◌, ⊎_elim, arith}
 use Rattle.af_told_law.proofs.Common.{All, Busy, CarriesNone, Clean, Command, FastState, FastTrack, Heard, Home, IsSound, Learnt, Lent, NormalKept, Push, Pushed, Returning, Setup, Sound, StaysPut, TrackKept, Turn, acked_len, after_ack, after_edits, after_push, after_takes, after_tracks, asked, at_here, at_set, carries, cases_eq, comer_inside, comer_slot, comes_home, detached, edited, edited_to, entered, is_home, is_lent, is_returning, leaver_slot, lend, lent_by, let_go, must_enter, must_leave, no, number_of, ordered, served_len, setting_of, slice_set, slot_number, slot_of, slots, sound_edits, stay_put, stays_all, stays_out, track_at, turn_after, welcomed, welcomed_at}
-use Rattle.af_normal.proofs.OrderSound.{sound_acked}
-use Rattle.af_normal.proofs.OrderSlots.{sound_served}
+use Rattle.af_life.proofs.SoundTurns.{sound_acked}
+use Rattle.af_life.proofs.SoundSlots.{sound_served}
 use Rattle.af_life.proofs.Basics.{lent_away}
 use Rattle.af_life.specs.declared.kept.Holder.{Holder}
 use Rattle.af_life.specs.declared.kept.Setting.{Setting}

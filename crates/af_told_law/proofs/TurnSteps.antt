@@ -12,7 +12,7 @@ use Rattle.af_normal.proofs.LegalEdits.{Mutated, edits_are, edits_same}
 use Rattle.af_normal.proofs.LegalFlags.{told_still, known_still}
 use Rattle.af_normal.proofs.LegalMade.{PlaysBy, plays_by}
 use Rattle.af_normal.proofs.LegalServed.{ServedTo, served_all}
-use Rattle.af_normal.proofs.OrderSlots.{sound_served}
+use Rattle.af_life.proofs.SoundSlots.{sound_served}
 
 -- the first n of a list are there
 there_are : {X : Type 0} (xs : List X) (n : ℕ) → n ≤ length xs → (j : ℕ) → j < n → (s : X) × (slice_get xs j ≡ Some s)

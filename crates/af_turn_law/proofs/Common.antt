@@ -10,11 +10,11 @@ pub use Rattle.af_base.specs.declared.state.FastState.{FastState}
 pub use Rattle.af_base.specs.declared.turn.CommandLook.{CommandLook}
 pub use Rattle.af_judge.proofs.Basics.{each_at, each_long, met_many, or_left, push_tracks, report_ends, told_each}
 pub use Rattle.af_judge.proofs.QueueSteps.{ones_more, twos_stay, twos_more, ones_stay, ones_met, twos_met}
-pub use Rattle.af_judge.proofs.SoundLives.{IsGiven, goes_served, grew_report}
-pub use Rattle.af_judge.proofs.SoundSlots.{sound_served}
-pub use Rattle.af_judge.proofs.SoundTurns.{Sound, sound_acked, sound_new, sound_turn}
 pub use Rattle.af_life.proofs.Basics.{at_new, at_other, at_set, welcomed_at}
 pub use Rattle.af_life.proofs.Lives.{acked_len, not_yet, served_len, turn_len}
+pub use Rattle.af_life.proofs.SoundLives.{IsGiven, goes_served, grew_report}
+pub use Rattle.af_life.proofs.SoundSlots.{sound_served}
+pub use Rattle.af_life.proofs.SoundTurns.{Sound, sound_acked, sound_new, sound_turn}
 pub use Rattle.af_life.specs.Edits.{after_ack, after_push, comes_home, edited_to, must_enter, must_leave}
 unfoldable pub use Rattle.af_life.specs.Edits.{edited, lend, let_go, mutated, ordered, welcomed}
 pub use Rattle.af_life.specs.Heard.{heard, learnt, ready}

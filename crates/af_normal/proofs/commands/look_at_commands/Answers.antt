@@ -1,7 +1,9 @@
 use Rattle.std.proofs.Common.{◌≡◌, ◌+◌, ◌≤◌, true, ℕ, length, List, [], ◌∷◌, ◌++◌, sym, ap, ◌∙◌, subst, length-append, arith}
 use Rattle.af_normal.proofs.Common.{CommandLook, TrackKept, after_all, after_look, after_looks, all_go_on, are_due, goes_on}
 use Rattle.af_normal.specs.Commands.{LooksMade}
-use Rattle.af_normal.proofs.OneMore.{push_made, one_more, last_due, all_due, all_after, still_on, after-push, settles_one}
+use Rattle.af_normal.proofs.OneMore.{push_made, one_more, last_due, all_due, all_after}
+use Rattle.af_life.proofs.LooksSoFar.{still_on, after-push}
+use Rattle.af_life.proofs.Settles.{settles_one}
 use Rattle.af_normal.proofs.commands.look_at_commands.Goals as goal
 
 pub returns-then-not-goes_on-clause-looks : goal.returns-then-not-goes_on-clause-looks

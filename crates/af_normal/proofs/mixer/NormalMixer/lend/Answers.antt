@@ -1,6 +1,5 @@
 use Rattle.std.proofs.Common.{◌<◌, ap, ◌∙◌, sym, subst, length, None, arith}
-use Rattle.af_normal.proofs.Common.{IsInOrder, IsStreamOf, ServerState, get_or_default}
-use Rattle.af_normal.proofs.Basics.{one_of}
+use Rattle.af_normal.proofs.Common.{IsInOrder, IsStreamOf, ServerState, get_or_default, some_same}
 use Rattle.af_normal.specs.Mixing.{stream_at}
 use Rattle.af_normal.specs.State.{NormalState}
 use Rattle.af_normal.proofs.mixer.NormalMixer.lend.Goals as goal
@@ -11,7 +10,7 @@ known-own-requires c =
     let long = ap (λ (m : NormalState). length m.streams) c.self.view_is in
     let below = c.requires.track.1 in
     let there : c.args.i < length c.self.inside.streams.items = omega arith in
-    let is = one_of c.in-Some.server c.requires.home.0 (c.in-Some.ensures.value ∙ c.index_mut.ensures.value ∙ get_or_default c.self.inside.streams.items c.args.i c.index_mut.result.now None there ∙ same ∙ c.requires.home.1) in
+    let is = some_same c.in-Some.server c.requires.home.0 (c.in-Some.ensures.value ∙ c.index_mut.ensures.value ∙ get_or_default c.self.inside.streams.items c.args.i c.index_mut.result.now None there ∙ same ∙ c.requires.home.1) in
     record { order = subst IsInOrder (sym is) c.requires.home.2 }
 
 pub attach-requires-clause-fits : goal.attach-requires-clause-fits
@@ -20,5 +19,5 @@ attach-requires-clause-fits c = λ names h.
     let long = ap (λ (m : NormalState). length m.streams) c.self.view_is in
     let below = c.requires.track.1 in
     let there : c.args.i < length c.self.inside.streams.items = omega arith in
-    let is = one_of c.in-Some.server c.requires.home.0 (c.in-Some.ensures.value ∙ c.index_mut.ensures.value ∙ get_or_default c.self.inside.streams.items c.args.i c.index_mut.result.now None there ∙ same ∙ c.requires.home.1) in
+    let is = some_same c.in-Some.server c.requires.home.0 (c.in-Some.ensures.value ∙ c.index_mut.ensures.value ∙ get_or_default c.self.inside.streams.items c.args.i c.index_mut.result.now None there ∙ same ∙ c.requires.home.1) in
     subst (λ (s : ServerState). IsStreamOf names.blocks c.args.i s) (sym is) (c.requires.home.3 names (sym (ap (λ (m : NormalState). m.mutator.past.key) c.self.view_is) ∙ h))

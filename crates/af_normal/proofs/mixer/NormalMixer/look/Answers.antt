@@ -1,5 +1,5 @@
 use Rattle.std.proofs.Common.{◌≡◌, ℕ, ◌-◌, ◌&&◌, Bool, true, false, MatchBool, length, refl, sym, ap, ◌∙◌, subst, arith}
-use Rattle.af_normal.proofs.Common.{Mutates, ServerState, StreamNames, WasAcked, both, commands_exit}
+use Rattle.af_normal.proofs.Common.{Mutates, ServerState, StreamNames, WasAcked, and_true, both, commands_exit}
 use Rattle.af_normal.specs.Coming.{HaveSlots, WelcomesTo}
 use Rattle.af_normal.specs.Order.{IsGoing}
 use Rattle.af_normal.specs.State.{NormalState}
@@ -17,10 +17,6 @@ use Rattle.af_normal.proofs.mixer.NormalMixer.look.Goals as goal
 
 turned_round : (a b : Bool) → (a && b) ≡ false → (b && a) ≡ false
 turned_round true b e = and_true b ∙ e
-  where
-    and_true : (d : Bool) → (d && true) ≡ d
-    and_true true = refl
-    and_true false = refl
 turned_round false true e = refl
 turned_round false false e = refl
 

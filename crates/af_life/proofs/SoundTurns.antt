@@ -1,10 +1,20 @@
 -- A turn of the plain mixer keeps what holds of its slots and its draft, whatever it saw.
 use Rattle.std.proofs.Common.{◌≡◌, ℕ, zero, suc, ◌≤◌, Bool, true, false, if◌then◌else◌, true≢false, sym, refl, ap, subst, ◌∙◌, List, [], ◌∷◌, length, fold, inl, replicate, All, arith}
-use Rattle.af_judge.proofs.Common.{Busy, Clean, Command, FastState, Home, IsDrafted, IsSlotted, IsSound, IsState, Learnt, NormalKept, Push, Pushed, Setting, Setup, TakeSeen, TrackKept, Turn, acked_len, after_ack, after_edits, after_push, after_take, after_takes, after_tracks, and_none, asked, at_new, both_first, comes_home, look_counted, edited, edited_to, edits_len, either, has_slot, holds, initial, is_home, is_returning, lend, let_go, must_enter, must_leave, mutated, new_normal, new_track, no, ordered, returning_away, scale_fits, served_len, set_each, slot_is, sound_ordered, track_at, turn_after, welcomed, welcomed_at}
-use Rattle.af_judge.proofs.DraftBits.{initial_state}
-use Rattle.af_judge.proofs.SoundSlots.{alone_set}
-use Rattle.af_judge.proofs.SoundEdits.{comer_inside, sound_go, sound_lend}
-use Rattle.af_judge.proofs.SoundSlots.{sound_served}
+use Rattle.af_life.proofs.Common.{Busy, Clean, Command, FastState, IsState, Push, Pushed, TakeSeen, Turn, and_none, both_first, initial, no}
+use Rattle.af_life.proofs.Basics.{at_new, either, has_slot, returning_away, scale_fits, set_each, slot_is, sound_ordered, welcomed_at}
+use Rattle.af_life.proofs.Lives.{acked_len, edits_len, served_len}
+use Rattle.af_life.specs.Edits.{after_ack, after_push, comes_home, edited, edited_to, lend, let_go, must_enter, must_leave, mutated, ordered, welcomed}
+use Rattle.af_life.specs.Kept.{Learnt, NormalKept, Setup, asked, is_home, is_returning, new_normal, new_track, track_at}
+use Rattle.af_life.specs.Obeys.{holds}
+use Rattle.af_life.specs.Plays.{after_take, after_takes, look_counted}
+use Rattle.af_life.specs.Sound.{IsDrafted, IsSlotted, IsSound}
+use Rattle.af_life.specs.Turn.{after_edits, after_tracks, turn_after}
+use Rattle.af_life.specs.declared.kept.Holder.TheVariants.{Home}
+use Rattle.af_life.specs.declared.kept.Setting.{Setting}
+use Rattle.af_life.specs.declared.kept.TrackKept.{TrackKept}
+use Rattle.af_life.proofs.DraftBits.{initial_state}
+use Rattle.af_life.proofs.SoundSlots.{alone_set, sound_served}
+use Rattle.af_life.proofs.SoundEdits.{comer_inside, sound_go, sound_lend}
 
 -- ## What comes home
 
@@ -102,7 +112,7 @@ module _ (c : Setup) (scales : All (λ (s : Setting). s.scale ≤ 4096) c.settin
   unfolding turn_after
   sound_turn m e few h = by_bool e.ended (record m { ended = true }) _ (λ f. h) (λ f. goes_sound m e few h)
 
--- ## Before the both_first turn
+-- ## Before the first turn
 
 pub new_sound : (n frames : ℕ) (draft : FastState) → draft ≡ initial frames → IsSound (replicate n new_track) draft
 new_sound n frames draft e = record {
@@ -112,6 +122,6 @@ new_sound n frames draft e = record {
   state = subst IsState (sym e) (initial_state frames);
 }
 
--- the mixer is sound before the both_first turn
+-- the mixer is sound before the first turn
 pub sound_new : (c : Setup) → Sound (new_normal c)
 sound_new c = new_sound (length c.settings) c.frames (new_normal c).draft refl

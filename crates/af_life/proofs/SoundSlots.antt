@@ -1,7 +1,14 @@
 -- Serving the tracks keeps what holds of their slots.
 use Rattle.std.proofs.Common.{◌≡◌, ℕ, zero, suc, ◌+◌, ◌<◌, ◌≤◌, ◌&&◌, ◌⊎◌, not, Bool, true, false, if◌then◌else◌, true≢false, is_some, sym, refl, ap, subst, ◌∙◌, inl, inr, List, Option, Some, None, arith}
-use Rattle.af_judge.proofs.Common.{AreAlone, FastState, Holder, Home, IsDrafted, IsSlotted, IsSound, Learnt, Lent, Returning, Setup, TrackKept, TrackSeen, at_set, carries, find, free_slot, has_slot, holds, is_home, is_lent, is_returning, list_any, no, none_holds, not_ended, not_true, number_of, range_with_len, seen_at, served, served_to, set_each, setting_of, slice_set, slot_for, slot_is, slot_number, slot_of, slots, track_at}
-use Rattle.af_judge.proofs.SoundLives.{Goes, goes_served}
+use Rattle.af_life.proofs.Common.{FastState, TrackSeen, carries, find, list_any, no, not_true, range_with_len, slice_set, slot_of, slots}
+use Rattle.af_life.proofs.Basics.{at_set, has_slot, lent_away, none_holds, not_ended, returning_away, set_each, slot_is}
+use Rattle.af_life.specs.Kept.{Learnt, Setup, is_home, is_lent, is_returning, number_of, seen_at, setting_of, slot_number, track_at}
+use Rattle.af_life.specs.Obeys.{free_slot, holds, slot_for}
+use Rattle.af_life.specs.Serves.{served, served_to}
+use Rattle.af_life.specs.Sound.{AreAlone, IsDrafted, IsSlotted, IsSound}
+use Rattle.af_life.specs.declared.kept.Holder.{Holder}
+use Rattle.af_life.specs.declared.kept.TrackKept.{TrackKept}
+use Rattle.af_life.proofs.SoundLives.{Goes, goes_served}
 
 -- ## A free slot
 
@@ -95,16 +102,6 @@ module _ (c : Setup) (tracks : List TrackKept) (i : ℕ) (s t : TrackKept) (is :
         subst (λ (o : Option ℕ). ((slot_of draft (number_of o)).track ≡ n) × ((slot_of draft (number_of o)).generation ≡ t.generation)) (kept was) ((d.own was).0, (d.own was).1 ∙ sym goes.generation));
   }
     where
-      lent_away : (h : Holder) → is_lent h ≡ true → is_home h ≡ false
-      lent_away Home e = no e
-      lent_away Lent e = refl
-      lent_away Returning e = no e
-
-      returning_away : (h : Holder) → is_returning h ≡ true → is_home h ≡ false
-      returning_away Home e = no e
-      returning_away Lent e = no e
-      returning_away Returning e = refl
-
       kept : is_home s.holder ≡ false → s.slot ≡ t.slot
       kept away = elim goes.slot as (λ x. s.slot ≡ t.slot) [
         | inl e ↦ sym e

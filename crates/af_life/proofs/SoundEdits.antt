@@ -1,8 +1,16 @@
 -- The edits of the draft keep what holds of slots and draft.
 use Rattle.std.proofs.Common.{◌≡◌, ◌≢◌, ℕ, ◌<◌, ◌≤◌, ◌&&◌, Bool, true, false, true≢false, sym, refl, ap, subst, ◌∙◌, inl, length}
-use Rattle.af_judge.proofs.Common.{FastState, FastTrack, Heard, IsDrafted, IsSlotted, IsSound, NormalKept, Returning, Setup, TrackKept, and_none, away_holds, both, carries, detached, each_set, entered, has_slot, holds, inside, is_home, lent_away, lent_by, must_enter, must_leave, no, none_and, not_true, returning_away, set_each, setting_of, slice_set, slot_is, slot_number, slot_of, slot_of_away, slots, track_at}
-use Rattle.af_judge.proofs.DraftBits.{attached_here, attached_else, slot_here, slot_else, attached_state, detached_here, detached_else, detached_state}
-use Rattle.af_judge.proofs.SoundSlots.{alone_set}
+use Rattle.af_life.proofs.Common.{FastState, FastTrack, and_none, both, carries, detached, no, none_and, not_true, slice_set, slot_of, slots}
+use Rattle.af_life.proofs.Basics.{away_holds, each_set, has_slot, inside, lent_away, returning_away, set_each, slot_is, slot_of_away}
+use Rattle.af_life.specs.Edits.{entered, lent_by, must_enter, must_leave}
+use Rattle.af_life.specs.Kept.{NormalKept, Setup, is_home, setting_of, slot_number, track_at}
+use Rattle.af_life.specs.Obeys.{holds}
+use Rattle.af_life.specs.Sound.{IsDrafted, IsSlotted, IsSound}
+use Rattle.af_life.specs.declared.kept.Heard.{Heard}
+use Rattle.af_life.specs.declared.kept.Holder.TheVariants.{Home, Returning}
+use Rattle.af_life.specs.declared.kept.TrackKept.{TrackKept}
+use Rattle.af_life.proofs.DraftBits.{attached_here, attached_else, slot_here, slot_else, attached_state, detached_here, detached_else, detached_state}
+use Rattle.af_life.proofs.SoundSlots.{alone_set}
 
 module _ (m : NormalKept) (sound : IsSound m.tracks m.draft) where
   -- the slot of a track that isn't home
@@ -22,6 +30,18 @@ module _ (m : NormalKept) (sound : IsSound m.tracks m.draft) where
     lent = (λ h. (same (lent_away s.holder h)).0 ∙ d.lent h);
     returning = (λ h. (same (returning_away s.holder h)).0 ∙ d.returning h);
     own = (λ away. subst (λ (t : FastTrack). (t.track ≡ j) × (t.generation ≡ s.generation)) (sym (same away).1) (d.own away));
+  }
+
+  -- ## A proxy comes home
+
+  pub sound_home : (i : ℕ) → is_home (track_at m.tracks i).holder ≡ false → IsSound (slice_set m.tracks i (record (track_at m.tracks i) { holder = Home })) m.draft
+  sound_home i away = record {
+    slotted = set_each (λ (j : ℕ) (x : TrackKept). IsSlotted x) m.tracks i (record (track_at m.tracks i) { holder = Home }) (record { slot = (sound.slotted i).slot; unopened = (sound.slotted i).unopened; homely = (λ h. refl) }) sound.slotted;
+    drafted = set_each (IsDrafted m.draft) m.tracks i (record (track_at m.tracks i) { holder = Home }) (record { lent = no; returning = no; own = (λ h. absurd (true≢false h)) }) sound.drafted;
+    alone = alone_set m.tracks i (record (track_at m.tracks i) { holder = Home }) sound.alone
+        (λ (k : ℕ) h. let parts = has_slot k (record (track_at m.tracks i) { holder = Home }) h in
+        inl (slot_is k (track_at m.tracks i) parts.0 parts.1 (and_none (track_at m.tracks i).life.ended (is_home (track_at m.tracks i).holder) away)));
+    state = sound.state;
   }
 
   -- ## A track leaves

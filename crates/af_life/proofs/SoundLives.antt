@@ -1,12 +1,19 @@
 -- What a track's part of a turn changes of its life and of its slot.
 use Rattle.std.proofs.Common.{◌≡◌, ℕ, ◌==◌, ◌⊎◌, Bool, true, false, if◌then◌else◌, true≢false, is_some, sym, refl, ap, ◌∙◌, inl, inr, List, [], ◌∷◌, Option}
-use Rattle.af_normal.proofs.Common.{AllByRecursion, Case, CommandLook, Heard, Learnt, Life, Setup, SlotReport, TrackKept, after_look, after_looks, after_part, all_three, by_report, ended, equal_turned, goes_on, heard, is_home, is_reached, is_reported, is_shut, must_wait, never_true, no, noted, obeyed, opens, picks, ready, reports, served, settled_at, shows_command, slot_for, slot_reported, told, track_at}
-use Rattle.af_life.specs.declared.state.LifeState.TheVariants.{Absent}
+use Rattle.af_life.proofs.Common.{AllByRecursion, CommandLook, SlotReport, equal_turned, never_true, no}
+use Rattle.af_life.proofs.Basics.{all_three, picks}
+use Rattle.af_life.specs.Heard.{heard, is_reached, is_reported, noted, ready, settled_at, slot_reported}
+use Rattle.af_life.specs.Kept.{Learnt, Setup, is_home, track_at}
+use Rattle.af_life.specs.Obeys.{after_looks, commanded, ended, goes_on, is_shut, must_wait, obeyed, opens, shows_command, slot_for, told, after_look}
+use Rattle.af_life.specs.Reports.{Case, by_report, reports, first_case_effect as report_effect}
+use Rattle.af_life.specs.Serves.{after_part, served}
+use Rattle.af_life.specs.declared.kept.Heard.{Heard}
+use Rattle.af_life.specs.declared.kept.TrackKept.{TrackKept}
 use Rattle.af_life.specs.declared.track.Known.{Known}
+use Rattle.af_life.specs.declared.track.Life.{Life}
+use Rattle.af_life.specs.declared.state.LifeState.TheVariants.{Absent}
 use Rattle.af_life.specs.State.{is_among}
 use Rattle.af_life.specs.Commands.{Row, applies, commands, first_effect as command_effect, by_command}
-use Rattle.af_life.specs.Reports.{first_case_effect as report_effect}
-use Rattle.af_life.specs.Obeys.{commanded}
 
 -- ## Lives
 

@@ -1,6 +1,6 @@
 -- The slots that a draft carries, before any edit and after one.
 use Rattle.std.proofs.Common.{◌≡◌, ◌≢◌, ℕ, zero, suc, refl, ◌-◌, ◌^◌, ◌<◌, ◌≤◌, ◌==◌, ◌&&◌, not, true, false, Bool, bit_and, bit_or, ap, sym, ◌∙◌, subst, arith, length-set, eq-eqb, ne_eqb}
-use Rattle.af_judge.proofs.Common.{FastState, FastTrack, IsState, attached, carries, clear_other, clear_same, detached, get_or-replicate, get_or-set_other, get_or-set_same, initial, set_other, set_same, slot_of}
+use Rattle.af_life.proofs.Common.{FastState, FastTrack, IsState, attached, carries, clear_other, clear_same, detached, get_or-replicate, get_or-set_other, get_or-set_same, initial, set_other, set_same, slot_of}
 use Rattle.std.specs.Int.{bit_at}
 use Rattle.std.proofs.lemmas.Nat.Bits.{bit_at-suc, bit_at-zero}
 use mathlib.Core.Logic.{dite}
