@@ -2,7 +2,8 @@
 use Rattle.std.proofs.Common.{◌≡◌, ℕ, ◌<◌, List, length, Option, arith, sym, subst, ◌∙◌}
 use Rattle.af_audit.proofs.Common.{IsServedTrack, IsTrackAt, IsTrackOf, KeepsTracks, Marks, RoundSeen, Run, Session, TrackJudge, called_in_turn, calls_in, each_long, keeps_of, sides_of, slice_index_or, spec_of, there_is, told_at, told_each, turn_told, with_calls}
 use Rattle.af_judge.proofs.ServedCalls.{track_called}
-use Rattle.af_audit.specs.RunKept.{AreSides, CallsJudged, AreFit, IsLegalCaller, LeastBelow}
+use Rattle.af_audit.specs.RunKept.{AreSides, CallsJudged, AreFit, LeastBelow}
+use Rattle.af_audit.proofs.Words.{IsLegalCaller}
 
 -- the track of a number once all clients made their calls
 pub told_called : (round : RoundSeen) (run : Run) (n : ℕ) → n < length run.tracks → told_at (with_calls round run) n ≡ called_in_turn (calls_in round n) (told_at run n)

@@ -44,7 +44,8 @@ pub use Rattle.af_judge.proofs.TracksTold.{keeps_of, shapes_called, sides_called
 pub use Rattle.af_judge.specs.Blocks.{BlockJudged, IsBlockOf, new_judged}
 pub use Rattle.af_judge.specs.BlocksMet.{AreShort, BothKeep, blocks_met}
 pub use Rattle.af_judge.specs.Entries.{AreNumbered, CarriesApart, FastOf}
-pub use Rattle.af_judge.specs.EntriesTold.{AreEntriesRight, AreFormed, MayEnter, Playing, entries_leave, playing}
+pub use Rattle.af_judge.specs.EntriesTold.{AreEntriesRight, MayEnter, Playing, entries_leave, playing}
+pub use Rattle.af_judge.proofs.Words.{AreFormed}
 pub use Rattle.af_judge.specs.FastKept.{FastKept, carries_track, fast_begins, number_found}
 pub use Rattle.af_judge.specs.Foresight.{entries_foreseen, foreseen, servers_at}
 pub use Rattle.af_judge.specs.NormalJudged.{IsJudged, NormalJudged}
@@ -52,8 +53,10 @@ pub use Rattle.af_judge.specs.NormalTold.{IsRight, IsTrackAt}
 pub use Rattle.af_judge.specs.PipeKept.{PipeKept, front_by_room, saw_front, with_meeting, with_put}
 pub use Rattle.af_judge.specs.QueueNumbers.{turn_steps, with_steps}
 pub use Rattle.af_judge.specs.ReportKept.{ReportKept}
-pub use Rattle.af_judge.specs.RunTold.{IsServedBlock, IsServedTrack, KeepsTracks, NormalOf, StatesFit}
-pub use Rattle.af_judge.specs.SharedTold.{AreRight, BesideQueue, QueueGoes, QueueOf}
+pub use Rattle.af_judge.specs.RunTold.{IsServedBlock, IsServedTrack, KeepsTracks, NormalOf}
+pub use Rattle.af_judge.proofs.Words.{StatesFit}
+pub use Rattle.af_judge.specs.SharedTold.{AreRight, BesideQueue, QueueGoes}
+pub use Rattle.af_judge.proofs.Words.{QueueOf}
 pub use Rattle.af_judge.specs.StatesKept.{SameSlots, StatesKept}
 pub use Rattle.af_judge.specs.Tracks.{AreSpelled, IsSpelled, IsTrackOf, KeepsTrack, SameServers}
 pub use Rattle.af_judge.specs.TurnJudged.{TurnJudged}
@@ -65,7 +68,8 @@ pub use Rattle.af_life.proofs.SoundSlots.{sound_served}
 pub use Rattle.af_life.proofs.SoundTurns.{sound_acked}
 pub use Rattle.af_life.specs.Commands.{Row, applies, commands, first_effect}
 unfoldable pub use Rattle.af_life.specs.Commands.{by_command, starts}
-pub use Rattle.af_life.specs.Drained.{AreLegal, DrainedIsReached, IsDrainedBy, LifeStep, StoppedAt, Turned, cut, heard_of, kept_after, life_of, looks_steps, most_heard, reports_drained, steps_of, stops, told}
+pub use Rattle.af_life.specs.Drained.{AreLegal, DrainedIsReached, LifeStep, StoppedAt, Turned, cut, heard_of, kept_after, life_of, looks_steps, most_heard, reports_drained, steps_of, stops, told}
+pub use Rattle.af_life.proofs.Words.{IsDrainedBy}
 unfoldable pub use Rattle.af_life.specs.Drained.{track_steps}
 pub use Rattle.af_life.specs.Edits.{after_ack, after_push, comes_home, commanded_by, edited_to, entered, commands_exit, is_over, lent_by, must_enter, must_leave}
 unfoldable pub use Rattle.af_life.specs.Edits.{edited, lend, let_go, mutated, next_command, ordered, welcomed}

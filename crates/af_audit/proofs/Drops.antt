@@ -5,7 +5,7 @@ use Rattle.af_base.specs.declared.event.ClientEvent.TheVariants as client
 use Rattle.af_base.specs.declared.event.ServerEvent.TheVariants as server
 use Rattle.af_base.specs.declared.event.HandEvent.TheVariants as hand
 use Rattle.af_audit.specs.Fates.{ComesByFlush, DropsByFlush, SeesNewFlush}
-use Rattle.af_audit.specs.Known.{sees_more, most_seen}
+use Rattle.af_audit.proofs.Words.{sees_more, most_seen}
 use Rattle.af_audit.specs.Settled.{DropsAbove, DiscardsAbove}
 use Rattle.af_audit.proofs.Flushes.{new_above, flushes_rise}
 

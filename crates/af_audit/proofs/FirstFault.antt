@@ -2,7 +2,8 @@
 use Rattle.std.proofs.Common.{◌≡◌, Bool, true, false, ℕ, zero, suc, ◌+◌, ◌<◌, ◌≤◌, List, [], ◌∷◌, ◌++◌, append-nil, length, take, drop, Option, Some, None, arith, refl, sym, ap, subst, ◌∙◌}
 use Rattle.af_audit.proofs.Common.{Marks, NormalKept, RoundSeen, Run, Session, TrackJudge, after_round, all_ended, fast_party, has_ended, is_none, new_run, no_round, run_from, slice_index_or}
 use Rattle.af_audit.specs.declared.run_judge.RunJudge.{RunJudge}
-use Rattle.af_audit.specs.RunKept.{FindsFault, FindsUnclear, LeastBelow, at_end, party_ended, run_before}
+use Rattle.af_audit.specs.RunKept.{FindsFault, FindsUnclear, LeastBelow, party_ended, run_before}
+use Rattle.af_audit.proofs.Words.{at_end}
 use Rattle.af_audit.specs.Verdicts.{AllBefore, AllClear, AreClear, IsClear, IsFirstFault}
 use Rattle.af_audit.proofs.LeastOnes.{all_clear, fault_at_end, fault_here}
 use Rattle.af_audit.proofs.PartiesEnded.{all_is, going_least}

@@ -4,7 +4,7 @@ use Rattle.af_audit.proofs.Common.{ClientEvent, HandEvent, IsLegal, Moment, Serv
 use Rattle.af_base.specs.declared.event.ClientEvent.TheVariants as client
 use Rattle.af_base.specs.declared.event.ServerEvent.TheVariants as server
 use Rattle.af_base.specs.declared.event.HandEvent.TheVariants as hand
-use Rattle.af_audit.specs.Known.{sees_more, most_seen}
+use Rattle.af_audit.proofs.Words.{sees_more, most_seen}
 
 -- ## Flush words
 

@@ -2,7 +2,7 @@
 use Rattle.std.specs.Prelude.{◌≡◌, ◌↔◌, ◌<◌, ◌∷◌}
 use Rattle.std.proofs.Common.{arith, subst, sym, true≢false}
 use Rattle.af_audit.proofs.Common.{Bool, Frame, IsCutRun, IsLegalRun, IsTrue, JournalData, LegalRounds, List, Marks, RoundSeen, Run, ScriptData, Session, [], after_round, false, length, marks_of, new_run, run_from, session_of, suc, track_count, true, zero, ℕ}
-use Rattle.af_audit.specs.RunLaws.{MayBeJudged}
+use Rattle.af_audit.proofs.Words.{MayBeJudged}
 use Rattle.af_audit.specs.Verdicts.{AllBefore, IsFirstFault, IsRun, MayEnd}
 use Rattle.af_audit.proofs.JudgedExactly.{round_clear, round_legal}
 

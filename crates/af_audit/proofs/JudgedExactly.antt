@@ -2,7 +2,7 @@
 use Rattle.std.specs.Prelude.{◌≡◌, ◌<◌, ◌==◌, ◌∷◌}
 use Rattle.std.proofs.Common.{arith, subst}
 use Rattle.af_audit.proofs.Common.{Bool, Frame, JournalData, LegalRound, LegalRounds, List, Marks, MatchBool, RoundSeen, Run, ScriptData, Session, [], after_round, all_ended, below_is, false, fast_party, is_below, is_not_below, itself, marks_of, nat_lt, new_run, normal_party, refl, run_from, session_of, track_count, true, ℕ}
-use Rattle.af_audit.specs.RunLaws.{LegalExactly}
+use Rattle.af_audit.proofs.Words.{LegalExactly}
 use Rattle.af_audit.specs.Verdicts.{ClientIsClear, NormalIsClear, FastIsClear, IsClear, AreClear, AllClear}
 use Rattle.af_audit.proofs.Booleans.{one_more}
 

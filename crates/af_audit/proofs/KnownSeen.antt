@@ -3,7 +3,7 @@ use Rattle.std.proofs.Common.{◌≡◌, ◌⊎◌, inl, inr, ℕ, ◌/◌, ◌�
 use Rattle.af_audit.proofs.Common.{ClientEvent, HandEvent, HasHistory, IsLegal, Moment, ServerEvent, ServerKept, Shape, TrackPoint, after, after_server, by_client, by_hand, by_server, flushes_by, is_noticed, legal_cut, server_append, server_begins, server_keeps, server_kept, server_of, start, status_client, status_hand, zero-div}
 use Rattle.af_base.specs.declared.event.ClientEvent.TheVariants as client
 use Rattle.af_base.specs.declared.event.ServerEvent.TheVariants as server
-use Rattle.af_audit.specs.Known.{sees_more, most_seen}
+use Rattle.af_audit.proofs.Words.{sees_more, most_seen}
 use Rattle.af_audit.proofs.Drops.{client_cut}
 
 -- ## The flush count of a server

@@ -2,7 +2,8 @@
 use Rattle.std.proofs.Common.{◌≡◌, ℕ, ◌+◌, ◌<◌, ◌≤◌, Bool, true, false, true≢false, List, [], ◌∷◌, nat_lt, if◌then◌else◌, unwrap_or, Option, Some, None, arith, refl, sym, ap, ◌∙◌}
 use Rattle.af_audit.proofs.Common.{Marks, RoundSeen, Run, Session, all_more, fast_party, has_ended, nat_tests}
 use Rattle.af_audit.specs.declared.run_judge.Found.{Found}
-use Rattle.af_audit.specs.RunKept.{FindsFaults, LeastBelow, least_found, least_mixer, least_party, lesser}
+use Rattle.af_audit.specs.RunKept.{LeastBelow, least_found, least_mixer, least_party, lesser}
+use Rattle.af_audit.proofs.Words.{FindsFaults}
 use Rattle.af_audit.specs.Verdicts.{AreClear, IsClear, IsFirstFault, IsLeastWithout}
 
 -- the least number below a bound is the least one up to the number before

@@ -6,7 +6,7 @@ use Rattle.af_base.specs.declared.event.HandEvent.TheVariants as hand
 use Rattle.af_base.specs.declared.event.ServerEvent.TheVariants as server
 use Rattle.af_model.specs.History.{is_no_poke}
 use Rattle.af_audit.specs.Fates.{DropsByFlush}
-use Rattle.af_audit.specs.Known.{most_seen}
+use Rattle.af_audit.proofs.Words.{most_seen}
 use Rattle.af_audit.specs.Settled.{DiscardsAbove}
 use Rattle.af_audit.proofs.Drops.{met-discards, released_in, released_told, put_by, puts}
 use Rattle.af_audit.proofs.Grown.{Grows, grows_twice, grows_none, ends_grow, meet_grows, played_grow, rounds_grow}

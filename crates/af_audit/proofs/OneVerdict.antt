@@ -4,7 +4,7 @@ use Rattle.std.proofs.Common.{arith, subst, sym, ap, ◌∙◌, inl, inr}
 use Rattle.af_audit.proofs.Common.{Bool, Frame, JournalData, List, Marks, RoundSeen, Run, ScriptData, Session, [], after_round, all_ended, both_first, both_right, false, fast_party, has_ended, journal_pcm, list_all, marks_of, new_run, range_with_len, refl, session_of, slice_get, suc, take, true, zero, ℕ}
 use Rattle.af_audit.specs.declared.verdict.Verdict.TheVariants.{Legal, Refused}
 use Rattle.af_audit.specs.declared.verdict.Refusal.TheVariants as refused
-use Rattle.af_audit.specs.RunLaws.{OneVerdict}
+use Rattle.af_audit.proofs.Words.{OneVerdict}
 use Rattle.af_audit.specs.Verdicts.{AllClear, IsClear, IsFirstFault, IsLeastWithout, FirstDiffer}
 
 -- two numbers, of which neither is less

@@ -4,8 +4,10 @@ use Rattle.std.proofs.Common.{◌≡◌, inl, ℕ, suc, ◌+◌, ◌≤◌, Bool
 use Rattle.af_audit.proofs.Common.{AreFormed, AreOfPushed, BesideQueue, CycleEntry, EntrySeen, FastOf, FastState, Frame, KeepsPlaying, KeepsTracks, LegalNormalTurn, Marks, NormalKept, NormalOf, Playing, QueueGoes, QueueOf, ReportKept, RoundSeen, Run, Session, TrackJudge, Turn, after_turn, all_played, before_turn, beside_called, beside_loaded, calls_in, calls_same, calls_states, cycles_beside, drop-map, early_count, early_of, entries_beside, entries_go, entries_in, entries_keep, entries_leave, entries_queue, fast_round, fast_same, fits_of, fits_same, formed_front, frames_before, goes_called, is_early, late_of, loaded, loaded_same, nat_tests, playing, prefix_len, queue_loaded, take-map, with_calls, with_cycles, with_load}
 use Rattle.af_audit.specs.declared.run_judge.RunJudge.{RunJudge}
 use Rattle.af_audit.specs.RoundTold as told
-use Rattle.af_audit.specs.RoundTold.{begun, loaded_if}
-use Rattle.af_audit.specs.RunKept.{CallsJudged, IsLegalCaller, KeepsRun}
+use Rattle.af_audit.specs.RoundTold.{begun}
+use Rattle.af_audit.proofs.Words.{loaded_if}
+use Rattle.af_audit.specs.RunKept.{CallsJudged, KeepsRun}
+use Rattle.af_audit.proofs.Words.{IsLegalCaller}
 use Rattle.af_audit.proofs.CallsFollow.{calls_follow}
 
 -- ## The entries of a round

@@ -6,7 +6,8 @@ use Rattle.af_audit.specs.declared.run_judge.Found.{Found}
 use Rattle.af_audit.specs.declared.run_judge.RunJudge.{RunJudge}
 use Rattle.af_audit.specs.MeetingsJudged.{Keeps, TracksMet, is_there, mixers_met}
 use Rattle.af_audit.specs.RoundTold.{tracks_ended}
-use Rattle.af_audit.specs.RunKept.{FindsFaults, IsFit, IsLegalCaller, KeepsRun, LeastBelow, least_found}
+use Rattle.af_audit.specs.RunKept.{IsFit, KeepsRun, LeastBelow, least_found}
+use Rattle.af_audit.proofs.Words.{FindsFaults, IsLegalCaller}
 use Rattle.af_audit.specs.Verdicts.{ClientIsClear, FastIsClear, IsClear, NormalIsClear}
 use Rattle.af_audit.proofs.JudgedExactly.{client_part, fast_part, normal_part}
 use Rattle.af_audit.proofs.LeastOnes.{found_least}

@@ -5,7 +5,8 @@ use Rattle.af_audit.proofs.Common.{All-get_or, AreEntriesRight, AreFormed, Besid
 use Rattle.af_audit.specs.declared.run_judge.Found.{Found}
 use Rattle.af_audit.specs.declared.run_judge.RunJudge.{RunJudge}
 use Rattle.af_audit.specs.RoundTold.{RoundPlayed, TurnIfTold, begun}
-use Rattle.af_audit.specs.RunKept.{IsLegalCaller, JudgesRound, KeepsRun, LeastBelow, least_found, party_ended, run_before}
+use Rattle.af_audit.specs.RunKept.{JudgesRound, KeepsRun, LeastBelow, least_found, party_ended, run_before}
+use Rattle.af_audit.proofs.Words.{IsLegalCaller}
 use Rattle.af_audit.proofs.CallsFollow.{caller_found}
 use Rattle.af_audit.proofs.PartiesEnded.{all_is}
 use Rattle.af_audit.proofs.RoundFollows.{KeepsTurned, early, early_bare, early_beside, early_goes, early_keeps, first_keeps, late, late_bare, played_beside, played_draft, played_fast, played_normal, played_queue, played_tracks}

@@ -5,7 +5,7 @@ use Rattle.af_audit.proofs.Common.{AreMixedBut, Bool, CycleEntry, EntrySeen, Fra
 use Rattle.af_audit.proofs.Basics.{seen_map}
 use Rattle.af_base.specs.declared.log.Cycle.TheVariants as cycle
 use Rattle.af_model.specs.Cycles.{is_exit}
-use Rattle.af_audit.specs.RunLaws.{LegalAtTheEnd}
+use Rattle.af_audit.proofs.Words.{LegalAtTheEnd}
 use Rattle.af_runs.proofs.RoundEntries.{bare, round-entries}
 use Rattle.af_audit.proofs.OneVerdict.{each_ended}
 use Rattle.af_audit.proofs.Booleans.{one_more}

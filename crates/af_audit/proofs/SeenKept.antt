@@ -4,7 +4,7 @@ use Rattle.af_audit.proofs.Common.{All, All-get_or, HasBlockHistory, IsRound, Is
 use Rattle.std.proofs.Math.Pow.{pow_mono}
 use Rattle.af_audit.specs.Fates.{DropsByFlush}
 use Rattle.af_audit.proofs.FatesTold.{new_stands, new_there, told_new}
-use Rattle.af_audit.specs.Known.{most_seen}
+use Rattle.af_audit.proofs.Words.{most_seen}
 use Rattle.af_audit.specs.Settled.{DiscardsAbove}
 use Rattle.af_audit.proofs.FewRounds.{HasFew, rounds_have, told_flushes}
 use Rattle.af_audit.proofs.Grown.{rounds_grow}

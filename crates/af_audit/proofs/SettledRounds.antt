@@ -2,7 +2,7 @@
 use Rattle.std.proofs.Common.{◌≡◌, inr, inl, ℕ, ◌<◌, ◌≤◌, true, false, List, [], ◌∷◌, ◌++◌, length, Some, refl, sym, subst, arith, Bool}
 use Rattle.af_audit.proofs.Common.{All, All-get_or, All-head, All-tail, IsRound, IsScript, IsTrack, Learnt, LegalRound, LegalRounds, LegalTurnBy, Marks, NormalKept, RoundSeen, Run, Session, TrackKept, TrackTold, Turn, after_round, after_turn, all_played, at_new, before_turn, calls_in, cycles_beside, early_of, found_in, heard, is_poke_on, late_of, learnt, length-map, length-replicate, list_any, met_after, neither, new_normal, new_run, new_told_track, no_spec, outside_of, run_from, setup_of, spec_of, spec_setting, told_at, track_at, track_count, tracks_at, with_calls, with_cycles}
 use Rattle.af_life.specs.Kept.{new_track as new_mixed}
-use Rattle.af_audit.specs.Known.{most_seen}
+use Rattle.af_audit.proofs.Words.{most_seen}
 use Rattle.af_audit.proofs.CommandRounds.{CommandsAt, CommandsSo, at_more, calls_at, cycles_at, ends_at, loaded_at, met_at_so, turned_at}
 use Rattle.af_audit.proofs.Drops.{most_grows}
 use Rattle.af_audit.proofs.FatesTold.{new_there, told_new}

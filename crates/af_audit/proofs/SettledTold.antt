@@ -3,7 +3,7 @@ use Rattle.std.proofs.Common.{◌≡◌, ◌⊎◌, inl, inr, ℕ, ◌+◌, ◌*
 use Rattle.af_audit.proofs.Common.{All, BlockTold, Client, ClientEvent, Frame, HasBlockHistory, HasHistory, IsLegalRun, IsRound, IsScript, JournalData, LegalRounds, Marks, RoundSeen, Run, START, ScriptData, ServerEvent, Session, Shape, Side, Track, TrackKept, TrackTold, Turn, TurnFound, [], after_calls, after_round, after_turn, all_played, before_turn, both_right, called_in_turn, calls_in, client_list, cycles_beside, each_at, early_of, found_in, is_lawful, is_lawful_block, is_lawful_track, is_poke_on, late_of, lawful_more, list_any, loaded, marks_of, meets, met_after, met_at, new_run, no_track, not_true, outside_of, run_from, server_list, session_of, settled_in, setup_of, client_side, sides_called, sides_of, slice_get, take-append-drop, takes_part, told_at, told_each, track_at, track_count, turned, turned_track, with_calls, with_cycles, with_load, with_turn, zero-div}
 use Rattle.af_base.specs.declared.event.ClientEvent.TheVariants as client
 use Rattle.af_runs.specs.Blocks.{hand_list}
-use Rattle.af_audit.specs.Known.{most_seen}
+use Rattle.af_audit.proofs.Words.{most_seen}
 use Rattle.af_audit.specs.Settled.{DiscardsAbove, SeesSettled, SettledMeansKept}
 use Rattle.af_audit.proofs.CommandDrops.{taken_first}
 use Rattle.af_audit.proofs.CommandRounds.{CommandsAt, CommandsSo, met_so}

@@ -2,7 +2,8 @@
 use Rattle.std.proofs.Common.{◌≡◌, ℕ, ◌<◌, ◌≤◌, Bool, true, false, if◌then◌else◌, List, [], ◌∷◌, length, map, flat_map, Option, Some, None, arith, refl, sym, ap, subst, ◌∙◌}
 use Rattle.af_audit.proofs.Common.{AreSpelled, BlockTold, ClientCall, ClientEvent, EntrySeen, FastState, HandEvent, LegalClientTurn, NormalKept, Outside, RoundSeen, Run, ServerEvent, Session, Setup, Side, TakeSeen, Track, TrackTold, Turn, TurnFound, after_calls, after_round, after_turn, all_played, before_turn, called_in_turn, calls_in, command_list, cycle_beside, cycle_events, cycle_frames, cycles_beside, each_at, each_long, each_track, early_of, ends, entry_slot, found_in, front_of, going, hand-client, hand_does, hand_events_of, late_of, learnt, listed, loaded, met, met_at, met_many, mixed_track, no_track, outside_of, packed_word, played, server-client, server_does, setup_of, shape_met, shapes_called, client_side, sides_called, sides_of, slot_playing, slot_frames, state_for, stream_list, takes_from, takes_part, told_at, told_each, took, track_in, track_spelled, tracks_at, turned, turned_track, with_calls, with_cycle, with_cycles, with_ends, with_load, with_mix, with_poll, with_turn, words_taken}
 use Rattle.af_judge.proofs.Spelled.{spelled_turn}
-use Rattle.af_audit.specs.RunKept.{IsFit, IsLegalCaller}
+use Rattle.af_audit.specs.RunKept.{IsFit}
+use Rattle.af_audit.proofs.Words.{IsLegalCaller}
 use Rattle.af_audit.proofs.CallsFollow.{calls_long, told_called}
 
 -- ## What is fit

@@ -5,8 +5,9 @@ use Rattle.af_audit.proofs.Common.{AreFormed, AreNumbered, BesideQueue, FastKept
 use Rattle.af_judge.proofs.NormalRound.{no_turn_follows, no_turn_legal, turn_keeps, turn_legal}
 use Rattle.af_judge.proofs.ReportFound.{report_found}
 use Rattle.af_audit.specs.declared.run_judge.RunJudge.{RunJudge}
-use Rattle.af_audit.specs.RoundTold.{TurnIfTold, TurnTold, fast_turned, loaded_if, pipe_turned, report_turned}
-use Rattle.af_audit.specs.RunKept.{IsLegalCaller}
+use Rattle.af_audit.specs.RoundTold.{TurnIfTold, TurnTold, fast_turned, pipe_turned, report_turned}
+use Rattle.af_audit.proofs.Words.{loaded_if}
+use Rattle.af_audit.proofs.Words.{IsLegalCaller}
 use Rattle.af_audit.proofs.RoundFollows.{KeepsTurned}
 
 module _ (s : Session) (marks : Marks) (round : RoundSeen) (run : Run) (frames : List Frame) (place : ℕ) (j k : RunJudge) (tracks after : List TrackJudge) (r : ReportKept) (right : Bool)

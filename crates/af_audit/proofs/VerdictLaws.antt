@@ -4,7 +4,7 @@ use Rattle.std.proofs.Common.{subst}
 use Rattle.af_audit.proofs.Common.{Frame, IsLegalRun, JournalData, List, ScriptData, journal_pcm, ℕ}
 use Rattle.af_audit.specs.declared.verdict.Verdict.{Verdict}
 use Rattle.af_audit.specs.declared.verdict.Verdict.TheVariants.{Legal}
-use Rattle.af_audit.specs.RunLaws.{MayBeJudged}
+use Rattle.af_audit.proofs.Words.{MayBeJudged}
 use Rattle.af_audit.specs.Verdicts.{IsVerdict}
 use Rattle.af_audit.proofs.JudgedExactly.{legal_exactly}
 use Rattle.af_audit.proofs.OneVerdict.{one_verdict}

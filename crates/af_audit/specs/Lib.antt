@@ -1,5 +1,4 @@
 pub mod Verdicts
-pub mod RunLaws
 pub mod RunJudged
 pub mod RunKept
 pub mod RoundTold
@@ -7,7 +6,6 @@ pub mod MeetingsJudged
 pub mod Fates
 pub mod Spared
 pub mod Drained
-pub mod Known
 pub mod Settled
 pub mod Emptied
 pub mod HeardTakes

@@ -43,11 +43,6 @@ pipe_turned c e p = if e.ended then p else with_put (put_by c e.mixes) (saw_fron
 abbrev pub report_turned : Turn → ReportKept → ReportKept
 report_turned e r = if e.ended then r else record r { loaded = Some e.cycle }
 
--- the report's cell after the turn of a round, if the round has one
-abbrev pub loaded_if : Option Turn → ReportKept → ReportKept
-loaded_if None r = r
-loaded_if (Some e) r = report_turned e r
-
 -- what the fast mixer's judge keeps after a turn that left this draft: the draft, the looks at the queue, the push, and the pipe
 abbrev pub fast_turned : NormalJudged → FastState → Turn → FastKept → FastKept
 fast_turned j draft e f = record f { told = record f.told { draft = draft }; queue = with_steps (turn_steps (length j.states) e.ended e.ack e.push) f.queue; pipe = pipe_turned j.setup e f.pipe }

@@ -1,5 +1,5 @@
 -- What a judge keeps of a run while all parties were clear, and what it finds of a round.
-use Rattle.std.specs.Prelude.{◌≡◌, ◌↔◌, ℕ, ◌+◌, ◌<◌, ◌≤◌, ◌^◌, ◌==◌, nat_lt, Bool, true, false, IsTrue, if◌then◌else◌, List, [], length, map, take, slice_index_or, Option, Some, None}
+use Rattle.std.specs.Prelude.{◌≡◌, ℕ, ◌+◌, ◌<◌, ◌≤◌, ◌^◌, ◌==◌, nat_lt, Bool, true, false, if◌then◌else◌, List, [], length, map, take, slice_index_or, Option, Some, None}
 use Rattle.af_base.specs.declared.event.ClientCall.{ClientCall}
 use Rattle.af_base.specs.declared.frame.Frame.{Frame}
 use Rattle.af_base.specs.Sample.{packed_word}
@@ -21,7 +21,7 @@ use Rattle.af_runs.specs.Clients.{new_client}
 use Rattle.af_runs.specs.ClientTurns.{LegalClientTurn, Track, after_calls, new_side}
 use Rattle.af_runs.specs.LegalRuns.{is_lawful_block, run_from}
 use Rattle.af_runs.specs.Rounds.{after_round}
-use Rattle.af_runs.specs.Runs.{Run, calls_in, fast_party, new_run, pipe_cells, sides_of, told_at}
+use Rattle.af_runs.specs.Runs.{Run, fast_party, new_run, pipe_cells, sides_of, told_at}
 use Rattle.af_runs.specs.Sessions.{Session, command_shape, file_words, no_spec, script_setup, stream_shape, track_count}
 use Rattle.af_script.specs.Data.{ScriptData}
 use Rattle.af_script.specs.declared.track.TrackSpec.{TrackSpec}
@@ -75,17 +75,6 @@ least_party tracks normal fast None = least_mixer tracks normal fast
 abbrev pub least_found : Bool → ℕ → Found → Option ℕ
 least_found over tracks f = if over then Some 0 else least_party tracks f.normal f.fast (lesser f.caller f.met)
 
--- What is found says which party is clear: a client is if the round isn't behind the end of all parties, its turn is legal and what is found of its blocks is right. Each mixer is judged if all parties before it are clear
-pub record FindsFaults (Clear Turn Met : ℕ → Type 0) (over : Bool) (tracks : ℕ) (f : Found) : Type 0 where
-  pub behind : over ≡ true → Clear 0 → ⊥
-  pub going : over ≡ false → (p : ℕ) → p < tracks → Turn p → Met p → Clear p
-  pub turn : (p : ℕ) → p < tracks → Clear p → Turn p
-  pub met : (p : ℕ) → p < tracks → Clear p → Met p
-  pub caller_is : LeastBelow Turn tracks f.caller
-  pub met_is : LeastBelow Met tracks f.met
-  pub normal_is : ((p : ℕ) → p < tracks → Clear p) → IsTrue f.normal ↔ Clear tracks
-  pub fast_is : ((p : ℕ) → p < tracks + 1 → Clear p) → IsTrue f.fast ↔ Clear (tracks + 1)
-
 -- ## What is kept of a run
 
 -- a track of a number as its client has it: the words of its file, lists of a client that keeps to its calls, and blocks that are small enough
@@ -98,10 +87,6 @@ pub record IsFit (s : Session) (n : ℕ) (t : Track) : Type 0 where
 -- each track of a run is fit
 abbrev pub AreFit : Session → Run → Type 0
 AreFit s run = (n : ℕ) → n < track_count s → IsFit s n (sides_of (told_at run n))
-
--- the turn of a track's client in a round is a legal one
-abbrev pub IsLegalCaller : Run → RoundSeen → ℕ → Type 0
-IsLegalCaller run round i = LegalClientTurn (sides_of (told_at run i)) (calls_in round i)
 
 -- the run after the first rounds
 abbrev pub run_before : Session → List RoundSeen → ℕ → Run
@@ -131,11 +116,6 @@ pub record JudgesRound (cut : Bool) (s : Session) (marks : Marks) (run : Run) (r
 abbrev pub FindsFault : Session → Marks → Run → List RoundSeen → Option (ℕ × ℕ) → Type 0
 FindsFault s marks run rounds None = AllClear s marks run rounds
 FindsFault s marks run rounds (Some at) = IsFirstFault false s marks run rounds at.0 at.1
-
--- a party found behind all rounds, with the number of rounds
-abbrev pub at_end : ℕ → Option ℕ → Option (ℕ × ℕ)
-at_end rounds None = None
-at_end rounds (Some party) = Some (rounds, party)
 
 -- the first of some rounds that isn't clear is found, with its least party, or none. If none is found, what the judge keeps is kept of the run after these rounds
 abbrev pub FindsUnclear : Bool → Session → Marks → Run → List RoundSeen → RunJudge → List TrackJudge → Option (ℕ × ℕ) → Type 0

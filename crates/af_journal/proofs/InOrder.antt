@@ -11,7 +11,8 @@ use Rattle.af_journal.specs.declared.stage.Stage.TheVariants as stage
 use Rattle.af_journal.specs.Lines.{Written, numbers, words, line_bytes, with_lf}
 use Rattle.af_journal.specs.LineReading.{◌>>=◌, written_at}
 use Rattle.af_journal.specs.Ranges.{IsWritten}
-use Rattle.af_journal.specs.Readings.{IsFirstBad, IsInOrder, after_all, ends, first_lines, first_refused, parts_of, refused_or, stage_after}
+use Rattle.af_journal.specs.Readings.{IsFirstBad, ends, first_lines, first_refused, parts_of, refused_or, stage_after}
+use Rattle.af_journal.proofs.Words.{IsInOrder, after_all}
 use Rattle.af_journal.specs.Stages.{after_written, if_so, may_end}
 use Rattle.af_journal.specs.Texts.{text_of_lines}
 use Rattle.af_journal.proofs.Spelled.{Lacks, bind_some}

@@ -7,7 +7,8 @@ use Rattle.af_journal.specs.declared.line.Line.TheVariants as line
 use Rattle.af_journal.specs.declared.stage.Stage.{Stage}
 use Rattle.af_journal.specs.declared.stage.Stage.TheVariants as stage
 use Rattle.af_journal.specs.Lines.{Written, numbers}
-use Rattle.af_journal.specs.Readings.{AreInOrder, CanBeWritten, HasReading, IsInOrder}
+use Rattle.af_journal.specs.Readings.{CanBeWritten, HasReading}
+use Rattle.af_journal.proofs.Words.{AreInOrder, IsInOrder}
 use Rattle.af_journal.specs.Stages.{after_line, after_shown, after_written, is_submix, may_be_slot, shows_submix}
 use Rattle.af_journal.specs.Texts.{client_lines, each_from, entry_lines, fast_lines, round_lines, slot_lines, slots_lines, turns_lines, words_after}
 use Rattle.af_journal.proofs.Fitting.{lines_fit, parted}

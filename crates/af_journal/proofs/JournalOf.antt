@@ -8,7 +8,8 @@ use Rattle.af_journal.specs.declared.stage.Stage.{Stage}
 use Rattle.af_journal.specs.declared.stage.Stage.TheVariants as stage
 use Rattle.af_journal.specs.Lines.{Written, numbers, words}
 use Rattle.af_journal.specs.Ranges.{IsLine, IsWritten}
-use Rattle.af_journal.specs.Readings.{AreInOrder, CanBeWritten, HasReading, IsInOrder, after_all}
+use Rattle.af_journal.specs.Readings.{CanBeWritten, HasReading}
+use Rattle.af_journal.proofs.Words.{AreInOrder, IsInOrder, after_all}
 use Rattle.af_journal.specs.Stages.{after_call, after_clients, after_entry, after_fast, after_line, after_look, after_part, after_shown, after_slot, after_take, after_taken, after_turn, after_words, comes, if_so, is_call, is_next, is_round, may_be_slot, may_end}
 use Rattle.af_journal.specs.Texts.{text_of_lines, words_after, round_lines}
 use Rattle.af_journal.proofs.Fitting.{is_journal}

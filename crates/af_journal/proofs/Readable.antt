@@ -1,6 +1,7 @@
 -- A text is one of lines in order exactly if it has a reading, so the first bad line is the same by either.
 use Rattle.std.proofs.Common.{ℕ, ◌++◌, ◌<◌, ◌^◌, List, Option, Some, None, IfNone, IfSome}
-use Rattle.af_journal.specs.Readings.{HasReading, IsFirstBad, IsInOrder, first_lines}
+use Rattle.af_journal.specs.Readings.{HasReading, IsFirstBad, first_lines}
+use Rattle.af_journal.proofs.Words.{IsInOrder}
 use Rattle.af_journal.proofs.InOrder.{Found}
 use Rattle.af_journal.proofs.JournalInOrder.{reading-in-order}
 use Rattle.af_journal.proofs.JournalOf.{order-has-reading}

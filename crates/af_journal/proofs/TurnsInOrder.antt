@@ -6,7 +6,7 @@ use Rattle.af_journal.specs.declared.stage.Stage.{Stage}
 use Rattle.af_journal.specs.declared.stage.Stage.TheVariants as stage
 use Rattle.af_journal.specs.Lines.{Written, numbers}
 use Rattle.af_journal.specs.LineReading.{◌>>=◌}
-use Rattle.af_journal.specs.Readings.{after_all}
+use Rattle.af_journal.proofs.Words.{after_all}
 use Rattle.af_journal.specs.Stages.{after_line, after_look, after_taken, after_written, comes, if_so, is_next, may_end}
 use Rattle.af_journal.specs.Texts.{call_lines, client_lines, command_words, disabled_lines, each_from, look_lines, status_lines, take_lines, track_lines, turn_lines, words_after}
 use Rattle.af_journal.proofs.InOrder.{all-append}

@@ -1,17 +1,15 @@
 -- A text has a reading if it is that of a journal, and else a first bad line.
-use Rattle.std.specs.Prelude.{◌≡◌, ℕ, ◌+◌, ◌<◌, ◌≤◌, ◌==◌, Bool, true, false, if◌then◌else◌, List, [], ◌∷◌, ◌++◌, take, length, flat_map, Option, Some, None}
-use Rattle.std.specs.List.{AllByRecursion, slice_split}
+use Rattle.std.specs.Prelude.{◌≡◌, ℕ, ◌+◌, ◌<◌, ◌≤◌, ◌==◌, Bool, false, if◌then◌else◌, List, [], ◌∷◌, ◌++◌, take, length, flat_map, Option, Some, None}
+use Rattle.std.specs.List.{slice_split}
 use Rattle.af_model.specs.Journals.{JournalData}
 use Rattle.af_model.specs.JournalForm.{IsJournal}
 use Rattle.af_journal.specs.declared.building.JournalFault.{JournalFault}
 use Rattle.af_journal.specs.declared.building.JournalFault.TheVariants as fault
 use Rattle.af_journal.specs.declared.stage.Stage.{Stage}
-use Rattle.af_journal.specs.declared.stage.Stage.TheVariants.{Nothing}
-use Rattle.af_journal.specs.Lines.{Written, with_lf}
+use Rattle.af_journal.specs.Lines.{with_lf}
 use Rattle.af_journal.specs.LineReading.{◌>>=◌, written_at}
-use Rattle.af_journal.specs.Ranges.{IsWritten}
 use Rattle.af_journal.specs.Stages.{after_written, may_end}
-use Rattle.af_journal.specs.Texts.{text_of, text_of_lines}
+use Rattle.af_journal.specs.Texts.{text_of}
 
 -- a journal of so many tracks; the numbers of its lines fit them (proofs/Fitting)
 pub record CanBeWritten (tracks : ℕ) (j : JournalData) : Type 0 where
@@ -36,22 +34,6 @@ abbrev pub IsReadBack : JournalData → Type 0
 IsReadBack j = IsJournal j → IsOneReading j.tracks (text_of j) j
 
 -- ## The lines of a text
-
--- the stage after some lines, one after the other
-abbrev pub after_all : ℕ → Stage → List Written → Option Stage
-after_all tracks at [] = Some at
-after_all tracks at (w ∷ ws) = after_written tracks at w >>= λ next. after_all tracks next ws
-
--- lines whose numbers fit, each of which may follow those before it, and of which the last may be the last
-pub record AreInOrder (tracks : ℕ) (ws : List Written) : Type 0 where
-  pub numbers_fit : AllByRecursion IsWritten ws
-  pub last : Stage
-  pub follow : after_all tracks Nothing ws ≡ Some last
-  pub ends : may_end last ≡ true
-
--- the text is that of lines in order
-abbrev pub IsInOrder : ℕ → List ℕ → Type 0
-IsInOrder tracks text = (ws : List Written) × AreInOrder tracks ws × (text ≡ text_of_lines ws)
 
 -- ## The first bad line
 

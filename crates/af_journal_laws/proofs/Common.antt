@@ -35,7 +35,8 @@ pub use Rattle.af_judge.proofs.BlocksMeet.{met_at, track_spelled}
 pub use Rattle.af_judge.proofs.EntriesFollow.{cycles_beside}
 pub use Rattle.af_judge.proofs.TracksTold.{sides_called}
 pub use Rattle.af_judge.specs.Tracks.{AreSpelled, IsSpelled}
-pub use Rattle.af_life.specs.Drained.{IsDrainedBy, LifeStep, StoppedAt, most_heard}
+pub use Rattle.af_life.specs.Drained.{LifeStep, StoppedAt, most_heard}
+pub use Rattle.af_life.proofs.Words.{IsDrainedBy}
 pub use Rattle.af_life.specs.Heard.{heard, learnt, ready, slot_reported}
 pub use Rattle.af_life.specs.Kept.{Learnt, NormalKept, Outside, Setup, asked, is_home, nothing_seen, slot_number, track_at, track_in}
 pub use Rattle.af_life.specs.Looks.{all_command_events, command_events, did, takes_command, words_taken}

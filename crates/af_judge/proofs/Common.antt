@@ -32,7 +32,8 @@ pub use Rattle.af_life.specs.Heard.{heard, is_reached, is_reported, known_by, le
 unfoldable pub use Rattle.af_life.specs.Heard.{noted, settled_at}
 pub use Rattle.af_life.specs.Kept.{Learnt, NormalKept, Outside, Setup, asked, is_home, is_lent, is_returning, new_normal, new_track, nothing_heard, nothing_seen, number_of, pipe_size, seen_at, setting_of, slot_number, track_at, track_in}
 pub use Rattle.af_life.specs.Looks.{HasWords, LegalLooks, all_command_events, as_slot, command_events, did, takes_command, words_taken}
-pub use Rattle.af_life.specs.Obeys.{after_looks, all_go_on, are_due, commanded, ended, free_slot, goes_on, holds, is_shut, must_wait, opens, shows_command, slot_for, told}
+pub use Rattle.af_life.specs.Obeys.{after_looks, are_due, commanded, ended, free_slot, goes_on, holds, is_shut, must_wait, opens, shows_command, slot_for, told}
+pub use Rattle.af_life.proofs.Words.{all_go_on}
 unfoldable pub use Rattle.af_life.specs.Obeys.{obeyed}
 pub use Rattle.af_life.specs.Plain.{Plain, learnt_of}
 pub use Rattle.af_life.specs.Plays.{LegalTake, after_take, after_takes, look_counted, is_mixed_here, mixed_here, put_by, take_of, tracks_due}

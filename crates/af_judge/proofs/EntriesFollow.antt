@@ -1,9 +1,12 @@
 -- What is kept of a run follows some entries, which are right exactly if they are legal.
 use Rattle.std.proofs.Common.{◌≡◌, ◌↔◌, ℕ, ◌+◌, sym, ap, ◌∙◌, subst, map, List, [], ◌∷◌, ◌++◌, append-nil, append_assoc, arith}
 use Rattle.af_judge.proofs.Common.{CycleEntry, EntrySeen, FastState, Frame, IsEntry, LegalEntries, LegalEntry, Marks, NormalKept, Report, Run, Session, cycle_entries, frames_before, sum_by, sum_by-append, sum_by-cons, taken_by, with_cycle, with_cycles, with_poll}
-use Rattle.af_judge.specs.Entries.{FastOf, StandsIn}
-use Rattle.af_judge.specs.EntriesTold.{AreEntriesRight, AreFormed, IsRightAfter, Playing, entries_leave, entry_leaves}
-use Rattle.af_judge.specs.RunTold.{KeepsTracks, StatesFit}
+use Rattle.af_judge.specs.Entries.{FastOf}
+use Rattle.af_judge.proofs.Words.{StandsIn}
+use Rattle.af_judge.specs.EntriesTold.{AreEntriesRight, IsRightAfter, Playing, entries_leave, entry_leaves}
+use Rattle.af_judge.proofs.Words.{AreFormed}
+use Rattle.af_judge.specs.RunTold.{KeepsTracks}
+use Rattle.af_judge.proofs.Words.{StatesFit}
 use Rattle.af_judge.proofs.EntryTold.{SameBeside, beside_both, cycle_beside, entry_exact, fast_follows, fits_follow, same_beside, tracks_follow}
 
 -- the entries of the log

@@ -5,7 +5,8 @@ use Rattle.std.proofs.lemmas.List as lists
 use Rattle.af_base.specs.declared.event.ServerEvent.TheVariants as server
 use Rattle.af_judge.specs.declared.track_judge.TrackJudge.{TrackJudge}
 use Rattle.af_judge.specs.Blocks.{listed_in}
-use Rattle.af_judge.specs.Entries.{FastOf, StandsIn, StreamsOf}
+use Rattle.af_judge.specs.Entries.{FastOf}
+use Rattle.af_judge.proofs.Words.{StandsIn, StreamsOf}
 use Rattle.af_judge.specs.FastKept.{FastKept, fast_added, heard_slots, pipe_played}
 use Rattle.af_judge.specs.PipeKept.{with_look}
 use Rattle.af_judge.specs.Reporting.{block_at, heard_at, no_block, report_added, slot_added, state_in, told_at_slot, told_by}

@@ -5,7 +5,8 @@ use Rattle.af_base.specs.declared.event.ServerEvent.TheVariants as server
 use Rattle.af_base.specs.declared.seen.Seen.TheVariants as seen
 use Rattle.af_judge.specs.declared.track_judge.TrackJudge.{TrackJudge}
 use Rattle.af_judge.specs.Blocks.{listed_in}
-use Rattle.af_judge.specs.Entries.{CarriesApart, CarriesWithin, FastOf, StreamsOf}
+use Rattle.af_judge.specs.Entries.{CarriesApart, CarriesWithin, FastOf}
+use Rattle.af_judge.proofs.Words.{StreamsOf}
 use Rattle.af_judge.specs.FastKept.{FastKept, FollowsTold, IsEntryRight, IsLookRight, fast_polled, IsMixRight, slots_played}
 use Rattle.af_judge.specs.Reporting.{state_in}
 use Rattle.af_judge.specs.Servers.{LooksRightly, front_judged}

@@ -5,7 +5,8 @@ use Rattle.af_judge.proofs.Basics.{each_at, each_long}
 use Rattle.af_runs.specs.Runs.{slot_playing}
 use Rattle.af_judge.specs.declared.track_judge.TrackJudge.{TrackJudge}
 use Rattle.af_judge.specs.Blocks.{BlockJudged, IsBlockOf, played_told}
-use Rattle.af_judge.specs.Entries.{CarriesApart, StandsIn, StreamsOf}
+use Rattle.af_judge.specs.Entries.{CarriesApart}
+use Rattle.af_judge.proofs.Words.{StandsIn, StreamsOf}
 use Rattle.af_judge.specs.FastKept.{slots_played, stream_changed}
 use Rattle.af_judge.specs.Judging.{ClientJudged, IsKeptOf}
 use Rattle.af_judge.specs.NormalTold.{IsTrackAt}

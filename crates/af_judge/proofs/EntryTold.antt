@@ -3,10 +3,12 @@ use Rattle.std.proofs.Common.{◌≡◌, ◌↔◌, ℕ, zero, suc, ◌+◌, ◌
 use Rattle.af_judge.proofs.Common.{BlockTold, EntrySeen, FastState, Frame, IsEntry, LegalEntry, Marks, NormalKept, Report, Run, Session, TrackTold, cycle_frames, changed_from, frames_before, mixed_track, no_track, played, slice_index_or, slots, state_among, state_at, state_for, state_of, told_at, track_count, with_cycle, with_looks, with_mix, with_poll}
 use Rattle.af_runs.specs.Runs.{slot_playing}
 use Rattle.af_judge.specs.declared.track_judge.TrackJudge.{TrackJudge}
-use Rattle.af_judge.specs.Entries.{CarriesApart, CarriesWithin, FastOf, StandsIn}
+use Rattle.af_judge.specs.Entries.{CarriesApart, CarriesWithin, FastOf}
+use Rattle.af_judge.proofs.Words.{StandsIn}
 use Rattle.af_judge.specs.FastKept.{FastKept, IsEntryRight, entry_told, entry_tracks, fast_polled, slots_played}
 use Rattle.af_judge.specs.Reporting.{state_in}
-use Rattle.af_judge.specs.RunTold.{CarriesFit, KeepsTracks, StatesFit}
+use Rattle.af_judge.specs.RunTold.{KeepsTracks}
+use Rattle.af_judge.proofs.Words.{CarriesFit, StatesFit}
 use Rattle.af_judge.proofs.EntryFollows.{fast_mixed}
 use Rattle.af_judge.proofs.EntryLegal.{fast_of_polled, right_legal_entry}
 use Rattle.af_judge.proofs.EntryStreams.{looks_long, streams_of, tracks_mixed}

@@ -4,7 +4,8 @@ use Rattle.af_judge.proofs.Common.{ClientEvent, CycleEntry, EntrySeen, FastState
 use Rattle.af_runs.specs.Runs.{slot_playing}
 use Rattle.af_judge.specs.declared.track_judge.TrackJudge.{TrackJudge}
 use Rattle.af_judge.specs.Blocks.{BlockJudged, IsBlockOf, played_told}
-use Rattle.af_judge.specs.Entries.{CarriesApart, StandsIn}
+use Rattle.af_judge.specs.Entries.{CarriesApart}
+use Rattle.af_judge.proofs.Words.{StandsIn}
 use Rattle.af_judge.specs.FastKept.{slot_played, slots_played, stream_changed}
 use Rattle.af_judge.specs.RunTold.{IsServedBlock}
 use Rattle.af_judge.proofs.BlocksTold.{server-client}

@@ -3,7 +3,8 @@ use Rattle.std.proofs.Common.{◌≡◌, ◌↔◌, ℕ, suc, ◌+◌, ◌<◌, 
 use Rattle.af_judge.proofs.Common.{CycleEntry, EntrySeen, FastState, Frame, IsFastTurn, LegalEntries, LegalFastTurn, Marks, MatchBool, Report, RoundSeen, Run, Session, Turn, TurnFound, UseUpTo, UseUpTo-more, UseUpTo-push, after_round, after_turn, all_played, before_turn, calls-entries, early_count, early_of, ends, entry_at, fast_ended, fills, found_in, frames_before, is_early, late_of, length-drop, length-take, loaded-entries, map-append, met, met-entries, nat_le, nat_tests, outside_of, prefix_len, pushed_by, setup_of, slice_get, sum_by, sum_by-append, take-append-drop, taken_by, turned, turned-entries, with_calls, with_cycle, with_cycles, with_ends, with_poll, with_turn}
 use Rattle.af_judge.proofs.Basics.{calls_states, ends_states, loaded_states, met_states}
 use Rattle.af_judge.specs.Entries.{FastOf}
-use Rattle.af_judge.specs.EntriesTold.{AreEntriesRight, AreFormed, MayEnter, Playing}
+use Rattle.af_judge.specs.EntriesTold.{AreEntriesRight, MayEnter, Playing}
+use Rattle.af_judge.proofs.Words.{AreFormed}
 use Rattle.af_judge.specs.FastKept.{EndsAsTurn, FastKept}
 use Rattle.af_judge.proofs.EntriesFollow.{KeepsPlaying, cycles_beside, cycles_entries, entries_in, entries_right}
 use Rattle.af_judge.proofs.EntryTold.{cycle_beside}

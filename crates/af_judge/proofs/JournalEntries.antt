@@ -1,8 +1,8 @@
 -- The entries of a journal have their form, and their frames stand in its log.
 use Rattle.std.proofs.Common.{◌≡◌, ◌⊎◌, inl, inr, ℕ, zero, suc, ◌+◌, ◌<◌, ◌≤◌, ◌==◌, Bool, true, false, if◌then◌else◌, refl, sym, ap, ◌∙◌, subst, map, List, [], ◌∷◌, ◌++◌, length, take, drop, append_assoc, append-nil, length-append, eqb-true, arith}
 use Rattle.af_judge.proofs.Common.{AreEntries, CycleEntry, EntrySeen, Frame, IsEntry, IsJournal, JournalData, RoundSeen, SlotEntry, absent, count_seen, drop-append-add, drop-append-le, drop-append_seam, drop-map, entries_of, entry_slot, frames_of, frames_taken, get_or-replicate, is_mixed, length-drop, length-take-le, no_round, round_at, slice_index_or, slot_frames, slots, sum_by, sum_by-cons, take-append-drop, take-append-le, take-append_seam, take-map, taken_before, taken_by, taken_up}
-use Rattle.af_judge.specs.Entries.{StandsIn}
-use Rattle.af_judge.specs.EntriesTold.{AreFormed}
+use Rattle.af_judge.proofs.Words.{StandsIn}
+use Rattle.af_judge.proofs.Words.{AreFormed}
 
 -- ## The slots of an entry
 

@@ -5,7 +5,8 @@ use Rattle.af_judge.specs.declared.track_judge.TrackJudge.{TrackJudge}
 use Rattle.af_judge.specs.NormalJudged.{NormalJudged}
 use Rattle.af_judge.specs.NormalTold.{IsRight}
 use Rattle.af_judge.specs.RunTold.{KeepsTracks, NormalOf}
-use Rattle.af_judge.specs.TurnJudged.{FoundIn, TurnJudged}
+use Rattle.af_judge.specs.TurnJudged.{TurnJudged}
+use Rattle.af_judge.proofs.Words.{FoundIn}
 use Rattle.af_judge.proofs.EntriesFollow.{cycles_beside}
 use Rattle.af_judge.proofs.StatesRuns.{before_same}
 use Rattle.af_judge.proofs.TurnFollows.{turn_follows, turn_right}

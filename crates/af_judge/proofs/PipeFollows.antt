@@ -7,7 +7,8 @@ use Rattle.af_base.specs.declared.event.ServerEvent.TheVariants as server
 use Rattle.af_base.specs.declared.seen.Seen.TheVariants as seen
 use Rattle.af_judge.specs.FastKept.{pipe_played}
 use Rattle.af_judge.specs.PipeKept.{AreEnds, HasPipeOrder, PipeKept, front_by_room, new_pipe, put_by, put_in, saw_front, taken_by, taken_in, with_look, with_meeting, with_put}
-use Rattle.af_judge.specs.SharedTold.{PipeOf, pipe_noted}
+use Rattle.af_judge.specs.SharedTold.{PipeOf}
+use Rattle.af_judge.proofs.Words.{pipe_noted}
 use Rattle.af_judge.proofs.PipeExact.{pipe_exact}
 use Rattle.af_judge.proofs.QueueSteps.{ones_met, ones_more, ones_stay, twos_met, twos_more, twos_stay}
 

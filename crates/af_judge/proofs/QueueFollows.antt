@@ -10,7 +10,8 @@ use Rattle.af_judge.specs.declared.queue_judge.MutatorStep.TheVariants as steps
 use Rattle.af_judge.specs.declared.queue_judge.ObserverStep.{ObserverStep}
 use Rattle.af_judge.specs.QueueNumbers.{HasRoundOrder, QueueKept, met, mutated, numbers, observed, observer_after, poll_steps, push_steps, queue_begins, with_looks, with_steps}
 use Rattle.af_judge.specs.QueueTold.{Fits, Follow, TellsLooks, TellsSteps}
-use Rattle.af_judge.specs.SharedTold.{AreStates, FindsBeyond, QueueFollows, QueueLost, SeesBeyond, pushes_in, pushes_told, seen_after}
+use Rattle.af_judge.specs.SharedTold.{AreStates, QueueFollows, pushes_in, pushes_told, seen_after}
+use Rattle.af_judge.proofs.Words.{FindsBeyond, QueueLost, SeesBeyond}
 use Rattle.af_judge.proofs.OrderCuts.{cut_begins, cut_meets, meeting_exact}
 use Rattle.af_judge.proofs.QueueFull.{fits_after, fits_met, fits_start, queue_exact}
 use Rattle.af_judge.proofs.QueueMeets.{queue_meeting}

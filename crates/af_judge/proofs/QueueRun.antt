@@ -8,7 +8,8 @@ use Rattle.af_judge.specs.declared.queue_judge.MutatorStep.{MutatorStep}
 use Rattle.af_judge.specs.declared.queue_judge.MutatorStep.TheVariants as steps
 use Rattle.af_judge.specs.QueueNumbers.{HasRoundOrder, QueueKept, met as met_kept, poll_steps, push_steps, queue_begins, turn_steps, with_looks, with_steps}
 use Rattle.af_judge.specs.QueueTold.{Follow}
-use Rattle.af_judge.specs.SharedTold.{QueueFollows, QueueGoes, QueueLost, QueueOf}
+use Rattle.af_judge.specs.SharedTold.{QueueFollows, QueueGoes}
+use Rattle.af_judge.proofs.Words.{QueueLost, QueueOf}
 use Rattle.af_judge.proofs.NormalKept.{goes_on_so, rests_so}
 use Rattle.af_judge.proofs.QueueFollows.{follows_exact, follows_first, follows_meeting, follows_poll, follows_turn, loses_poll, lost_exact, lost_none, pushed_if, stays_lost}
 use Rattle.af_judge.proofs.QueueSteps.{brought_again, brought_if, looked, push_told}

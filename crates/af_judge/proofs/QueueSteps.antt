@@ -13,7 +13,8 @@ use Rattle.af_judge.specs.declared.queue_judge.ObserverStep.{ObserverStep}
 use Rattle.af_judge.specs.declared.queue_judge.ObserverStep.TheVariants as looks
 use Rattle.af_judge.specs.QueueNumbers.{Numbers, may_step, mutated, mutator_after, observed, observer_after, push_steps}
 use Rattle.af_judge.specs.QueueTold.{TellsLooks, TellsSteps}
-use Rattle.af_judge.specs.SharedTold.{FindsBeyond, SeesBeyond, pushes_in, pushes_told, seen_after}
+use Rattle.af_judge.specs.SharedTold.{pushes_in, pushes_told, seen_after}
+use Rattle.af_judge.proofs.Words.{FindsBeyond, SeesBeyond}
 use Rattle.af_judge.specs.TwoEnds.{ends_next}
 
 -- ## Lists of one end

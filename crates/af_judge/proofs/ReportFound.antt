@@ -2,7 +2,8 @@
 use Rattle.std.proofs.Common.{◌≡◌, ◌⊎◌, inl, inr, ℕ, suc, ◌+◌, ◌-◌, ◌<◌, ◌≤◌, ◌==◌, Bool, false, if◌then◌else◌, ne_eqb, refl, sym, ap, ◌∙◌, fold, List, [], ◌∷◌, ◌++◌, append_assoc, append-nil, length, take, drop, length-append, arith}
 use Rattle.af_judge.proofs.Common.{CycleEntry, EntrySeen, Frame, Marks, Report, RoundSeen, Run, Session, Turn, before_turn, calls-entries, early_count, fold-append, found_in, get_or-append_right, get_or_append_left, get_or_default, get_or_past, last_report, late_of, length-map, length-take, max, min, next_report, no_report, report_of, slice_index_or, take-append-drop, take-map, take_all, with_calls, with_cycle, with_cycles, with_looks, with_mix, with_poll, within_or_beyond}
 use Rattle.af_judge.specs.Entries.{AreNumbered}
-use Rattle.af_judge.specs.EntriesTold.{AreFormed, Playing, entries_leave}
+use Rattle.af_judge.specs.EntriesTold.{Playing, entries_leave}
+use Rattle.af_judge.proofs.Words.{AreFormed}
 use Rattle.af_judge.specs.FastKept.{number_found}
 use Rattle.af_judge.specs.Foresight.{Foreseen, entries_foreseen, foreseen, servers_at}
 use Rattle.af_judge.proofs.EntriesFollow.{KeepsPlaying, cycles_entries, entries_in, entries_keep}

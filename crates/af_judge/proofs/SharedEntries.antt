@@ -1,11 +1,13 @@
 -- What is kept of the queue, the report and the pipe follows some entries, one after the other.
 use Rattle.std.proofs.Common.{◌≡◌, inl, inr, ℕ, ◌+◌, ◌≤◌, true≢false, List, [], ◌∷◌, length, None, sym, ap, ◌∙◌, subst}
 use Rattle.af_judge.proofs.Common.{EntrySeen, FastState, Frame, IsTurn, Marks, Report, Run, Session, Turn, taken_by, with_cycle, with_cycles}
-use Rattle.af_judge.specs.Entries.{StandsIn}
-use Rattle.af_judge.specs.EntriesTold.{AreFormed, Playing, entries_leave, entry_leaves}
+use Rattle.af_judge.proofs.Words.{StandsIn}
+use Rattle.af_judge.specs.EntriesTold.{Playing, entries_leave, entry_leaves}
+use Rattle.af_judge.proofs.Words.{AreFormed}
 use Rattle.af_judge.specs.QueueNumbers.{poll_steps, with_looks}
 use Rattle.af_judge.specs.ReportKept.{ReportKept}
-use Rattle.af_judge.specs.SharedTold.{BesideQueue, QueueGoes, QueueOf}
+use Rattle.af_judge.specs.SharedTold.{BesideQueue, QueueGoes}
+use Rattle.af_judge.proofs.Words.{QueueOf}
 use Rattle.af_judge.proofs.EntriesFollow.{KeepsPlaying, entries_in, entry_keeps}
 use Rattle.af_judge.proofs.EntryTold.{cycle_beside}
 use Rattle.af_judge.proofs.QueueRun.{PushesOpen}

@@ -2,13 +2,14 @@
 use Rattle.std.specs.Prelude.{◌↔◌, if◌then◌else◌}
 use Rattle.std.proofs.Common.{◌≡◌, ℕ, ◌≤◌, Bool, true, false, List, length, None, refl, ap, ◌∙◌, arith}
 use Rattle.af_judge.proofs.Common.{EntrySeen, Frame, LegalTurnBy, Marks, RoundSeen, Run, Session, SharedHistories, Turn, TurnFound, cycle_frames, each_track, ends, met, new_run, pipe_cells, pipe_size, setup_of, state_at, with_calls, with_cycle, with_ends, with_load, with_mix, with_poll, with_turn}
-use Rattle.af_judge.specs.Entries.{StandsIn}
+use Rattle.af_judge.proofs.Words.{StandsIn}
 use Rattle.af_judge.specs.FastKept.{pipe_played}
 use Rattle.af_judge.specs.PipeKept.{PipeKept, new_pipe, with_meeting}
 use Rattle.af_judge.specs.QueueNumbers.{QueueKept, met as met_kept, poll_steps, with_looks}
 use Rattle.af_judge.specs.QueueTold.{Follow}
 use Rattle.af_judge.specs.ReportKept.{ReportKept}
-use Rattle.af_judge.specs.SharedTold.{AreRight, BesideQueue, QueueGoes, QueueOf, pipe_noted}
+use Rattle.af_judge.specs.SharedTold.{AreRight, BesideQueue, QueueGoes}
+use Rattle.af_judge.proofs.Words.{QueueOf, pipe_noted}
 use Rattle.af_judge.proofs.PipeFollows.{ends_first, ends_met, ends_mixed, ends_turned, pipe_called, pipe_ended, pipe_first, pipe_judged, pipe_loaded, pipe_met_so, pipe_mixed, pipe_polled, pipe_turned}
 use Rattle.af_judge.proofs.QueueRun.{PushesOpen, goes_mixed, goes_polled, pushed_turned, queue_judged, queue_met, queue_mixed, queue_polled}
 use Rattle.af_judge.proofs.ReportFollows.{loaded_by, report_called, report_ended, report_first, report_judged, report_met_so, report_mixed, report_of_turn, report_polled, report_turned}

@@ -4,7 +4,7 @@ use Rattle.af_judge.proofs.Common.{All-map, All-weaker, EntrySeen, FastState, Is
 use Rattle.af_script.specs.declared.track.TrackSpec.{TrackSpec}
 use Rattle.af_script.specs.Form.{IsScript, IsTrack}
 use Rattle.af_judge.specs.Entries.{CarriesWithin}
-use Rattle.af_judge.specs.RunTold.{StatesFit}
+use Rattle.af_judge.proofs.Words.{StatesFit}
 use Rattle.af_judge.specs.StatesKept.{StatesKept}
 use Rattle.af_judge.proofs.Carried.{carries_apart, carries_within}
 use Rattle.af_judge.proofs.EntriesFollow.{cycles_beside}

@@ -3,7 +3,7 @@ use Rattle.std.proofs.Common.{◌≡◌, ◌↔◌, ℕ, ◌+◌, ◌^◌, ◌<�
 use Rattle.af_judge.proofs.Common.{AllByRecursion, GoesOn, LegalTake, LegalTurn, LegalTurnBy, Listed, LooksBy, Marks, NormalKept, Outside, Setup, SlotEntry, TakeSeen, TrackSeen, TracksRise, Turn, TurnFound, asked, ended_turn, ends_now, get_or-eq_default, lawful_front, less_differs, listed, nat_tests, nothing_seen, outside_of, outside_with, take_front, takes_from, track_in}
 use Rattle.af_judge.specs.Servers.{front_judged}
 use Rattle.af_judge.specs.NormalLooks.{AllAnswer}
-use Rattle.af_judge.specs.NormalTurns.{BlocksFound, TakeAnswers, TurnAnswers, IsRightTurn}
+use Rattle.af_judge.proofs.Words.{BlocksFound, TakeAnswers, TurnAnswers, IsRightTurn}
 use Rattle.af_judge.proofs.LooksExactly.{LegalBy, looks_exactly, judged_so, rightly}
 
 -- ## The first take of a track, if the tracks of takes rise

@@ -7,10 +7,12 @@ use Rattle.af_judge.specs.declared.track_judge.TrackJudge.{TrackJudge}
 use Rattle.af_judge.specs.Blocks.{BlockJudged, IsBlockOf}
 use Rattle.af_judge.specs.Judging.{ClientJudged, IsKeptOf}
 use Rattle.af_judge.specs.NormalJudged.{Follows, NormalJudged}
-use Rattle.af_judge.specs.NormalTold.{Finds, IsRight, IsTold, IsTrackAt, all_known, take_told, track_told}
+use Rattle.af_judge.specs.NormalTold.{IsRight, IsTold, IsTrackAt, all_known, take_told, track_told}
+use Rattle.af_judge.proofs.Words.{Finds}
 use Rattle.af_judge.specs.RunTold.{IsServedBlock, IsServedTrack, KeepsTracks, NormalOf}
 use Rattle.af_judge.specs.Tracks.{IsTrackOf}
-use Rattle.af_judge.specs.TurnJudged.{FoundIn, TurnJudged}
+use Rattle.af_judge.specs.TurnJudged.{TurnJudged}
+use Rattle.af_judge.proofs.Words.{FoundIn}
 use Rattle.af_judge.proofs.BlocksTold.{hand-client, server-client}
 use Rattle.af_judge.proofs.NormalKept.{rests_so}
 use Rattle.af_judge.proofs.TurnLegal.{element, learnt_same, opens, right_legal}

@@ -6,8 +6,10 @@ use Rattle.std.proofs.Math.Path.{fun_ext}
 use Rattle.af_judge.specs.declared.track_judge.TrackJudge.{TrackJudge}
 use Rattle.af_judge.specs.Blocks.{listed_in}
 use Rattle.af_judge.specs.NormalLooks.{AllAnswer}
-use Rattle.af_judge.specs.NormalTold.{Finds, IsTrackAt, LooksRight, IsRightTake, IsRight, RightTurn, all_known}
-use Rattle.af_judge.specs.NormalTurns.{Serves, TakeAnswers, TurnAnswers, learnt_by}
+use Rattle.af_judge.specs.NormalTold.{IsTrackAt, LooksRight, IsRightTake, IsRight, RightTurn, all_known}
+use Rattle.af_judge.proofs.Words.{Finds}
+use Rattle.af_judge.specs.NormalTurns.{Serves}
+use Rattle.af_judge.proofs.Words.{TakeAnswers, TurnAnswers, learnt_by}
 use Rattle.af_judge.specs.Servers.{LooksRightly}
 use Rattle.af_judge.proofs.TurnExactly.{blocks_of, turn_exactly}
 

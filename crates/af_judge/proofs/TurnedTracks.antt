@@ -6,7 +6,8 @@ use Rattle.af_base.specs.declared.event.ServerEvent.TheVariants as server
 use Rattle.af_judge.specs.declared.track_judge.TrackJudge.{TrackJudge}
 use Rattle.af_judge.specs.Blocks.{BlockJudged, IsBlockOf, played_told}
 use Rattle.af_judge.specs.NormalJudged.{Follows, NormalJudged}
-use Rattle.af_judge.specs.NormalTold.{Finds, all_known, is_shut_now, take_told, track_told}
+use Rattle.af_judge.specs.NormalTold.{all_known, is_shut_now, take_told, track_told}
+use Rattle.af_judge.proofs.Words.{Finds}
 use Rattle.af_judge.proofs.TurnLegal.{learnt_same}
 use Rattle.af_judge.proofs.TurnTold.{commands_kept, stream_kept}
 

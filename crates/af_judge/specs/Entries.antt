@@ -1,18 +1,13 @@
 -- What is kept of the fast mixer of a run, and what an entry finds.
-use Rattle.std.specs.Prelude.{◌≡◌, ℕ, ◌<◌, ◌≤◌, ◌^◌, true, List, ◌++◌, length, slice_get, Some}
-use Rattle.af_base.specs.declared.frame.Frame.{Frame}
+use Rattle.std.specs.Prelude.{◌≡◌, ℕ, ◌<◌, true, List, ◌++◌, length}
 use Rattle.af_base.specs.declared.report.Report.{Report}
 use Rattle.af_base.specs.declared.state.FastState.{FastState}
-use Rattle.af_base.specs.Log.{slots, count_seen, entry_slot, frames_taken}
+use Rattle.af_base.specs.Log.{slots}
 use Rattle.af_model.specs.Cycles.{cold_done, has_exit, last_used}
-use Rattle.af_model.specs.Journals.{EntrySeen, slot_frames}
 use Rattle.af_model.specs.Order.{twos}
 use Rattle.af_model.specs.StateQueue.{carries, slot_of}
-use Rattle.af_runs.specs.Blocks.{Marks, listed}
-use Rattle.af_runs.specs.Runs.{Run, last_report, told_at}
+use Rattle.af_runs.specs.Runs.{Run, last_report}
 use Rattle.af_runs.specs.Sessions.{Session, cycle_frames}
-use Rattle.af_judge.specs.declared.track_judge.TrackJudge.{TrackJudge}
-use Rattle.af_judge.specs.Blocks.{listed_in}
 use Rattle.af_judge.specs.FastKept.{FastKept}
 
 -- no state has one track in two slots
@@ -22,22 +17,6 @@ CarriesApart x = (i j : ℕ) → i < slots → j < slots → carries x i ≡ tru
 -- each track that a state carries is one of so many
 abbrev pub CarriesWithin : ℕ → FastState → Type 0
 CarriesWithin tracks x = (i : ℕ) → i < slots → carries x i ≡ true → (slot_of x i).track < tracks
-
--- the frames of an entry's slots stand in the log where its slots say so
-pub record StandsIn (frames : List Frame) (e : EntrySeen) : Type 0 where
-  pub same : (i : ℕ) → i < slots → frames_taken frames (entry_slot e.entry i) ≡ slot_frames e i
-  pub many : (i : ℕ) → i < slots → length (slot_frames e i) ≡ count_seen (entry_slot e.entry i).seen
-
--- the server of the stream block of each track is kept, with its mark
-pub record StreamOf (marks : Marks) (run : Run) (n : ℕ) (t : TrackJudge) : Type 0 where
-  pub server : listed_in t.stream ≡ listed (told_at run n).stream
-  pub lawful : marks.streams n ≡ t.stream.lawful
-  pub wrap : (told_at run n).stream.shape.wrap ≤ 2 ^ 31
-
--- each track of the run is there, with that server
-pub record StreamsOf (marks : Marks) (run : Run) (tracks : List TrackJudge) : Type 0 where
-  pub many : length tracks ≡ length run.tracks
-  pub each : (n : ℕ) (t : TrackJudge) → slice_get tracks n ≡ Some t → StreamOf marks run n t
 
 -- the reports are numbered by the entries
 pub record AreNumbered (run : Run) : Type 0 where

@@ -3,10 +3,7 @@ use Rattle.std.specs.Prelude.{◌≡◌, ℕ, ◌+◌, ◌<◌, ◌≤◌, ◌==
 use Rattle.af_base.specs.declared.frame.Frame.{Frame}
 use Rattle.af_base.specs.declared.log.CycleEntry.{CycleEntry}
 use Rattle.af_base.specs.declared.state.FastState.{FastState}
-use Rattle.af_model.specs.JournalForm.{IsEntry}
-use Rattle.af_model.specs.Journals.{EntrySeen, taken_by}
 use Rattle.af_judge.specs.declared.track_judge.TrackJudge.{TrackJudge}
-use Rattle.af_judge.specs.Entries.{StandsIn}
 use Rattle.af_judge.specs.FastKept.{EndsAsTurn, FastKept, IsEntryRight, entry_told, entry_tracks}
 
 -- what is kept of the fast mixer and of the tracks
@@ -33,11 +30,6 @@ IsRightAfter states frames entry p = IsEntryRight states frames entry p.fast p.t
 abbrev pub AreEntriesRight : List FastState → List Frame → List CycleEntry → Playing → Type 0
 AreEntriesRight states frames [] p = Unit {0}
 AreEntriesRight states frames (entry ∷ entries) p = IsRightAfter states frames entry p × AreEntriesRight states frames entries (entry_leaves states frames entry p)
-
--- each of some entries has its form from this place in the log's frames on, and its frames stand there
-abbrev pub AreFormed : List Frame → ℕ → List EntrySeen → Type 0
-AreFormed frames place [] = Unit {0}
-AreFormed frames place (e ∷ es) = StandsIn frames e × IsEntry place e.entry × AreFormed frames (place + taken_by e.entry) es
 
 -- So many entries of a log from a place on may follow, by a script of so many cycles: there is room for them, none come after the end, and else they are a turn. `cut` says whether it may end since the log is full
 pub record MayEnter (cut : Bool) (f : FastKept) (cycles : ℕ) (entries : List CycleEntry) (first count : ℕ) : Type 0 where

@@ -12,13 +12,11 @@ use Rattle.af_life.specs.declared.kept.Heard.{Heard}
 use Rattle.af_life.specs.declared.kept.TrackKept.{TrackKept}
 use Rattle.af_life.specs.Edits.{after_ack}
 use Rattle.af_life.specs.Heard.{heard, known_by}
-use Rattle.af_life.specs.Kept.{Setup, Learnt, NormalKept, asked, is_home, nothing_heard, track_at, track_in}
+use Rattle.af_life.specs.Kept.{Setup, Learnt, NormalKept, asked, is_home, track_at, track_in}
 use Rattle.af_life.specs.Plain.{learnt_of}
 use Rattle.af_life.specs.Serves.{is_found_shut}
 use Rattle.af_life.specs.Turn.{ends_now}
 use Rattle.af_life.specs.TurnEvents.{takes_from}
-use Rattle.af_runs.specs.Blocks.{Marks, listed}
-use Rattle.af_runs.specs.Found.{TurnFound}
 use Rattle.af_judge.specs.declared.track_judge.TrackJudge.{TrackJudge}
 use Rattle.af_judge.specs.Blocks.{BlockJudged, commanded_told, hand_more, listed_in, played_told, server_more}
 use Rattle.af_judge.specs.NormalLooks.{AllAnswer}
@@ -120,11 +118,3 @@ abbrev pub IsRight : Setup → Report → List TrackJudge → NormalKept → Tur
 IsRight c loaded tracks m e = MatchBool e.ended ((ends_now m e.ack ≡ true) × (e ≡ ended_turn)) (RightTurn c loaded tracks m e)
 
 -- ## What a run tells
-
--- these tracks are what a turn finds in a run
-pub record Finds (marks : Marks) (f : TurnFound) (tracks : List TrackJudge) : Type 0 where
-  pub streams : (i : ℕ) (t : TrackJudge) → IsTrackAt tracks i t → listed (f.streams i) ≡ listed_in t.stream
-  pub commands : (i : ℕ) (t : TrackJudge) → IsTrackAt tracks i t → listed (f.commands i) ≡ listed_in t.commands
-  pub lawful_streams : (i : ℕ) (t : TrackJudge) → IsTrackAt tracks i t → marks.streams i ≡ t.stream.lawful
-  pub lawful_commands : (i : ℕ) (t : TrackJudge) → IsTrackAt tracks i t → marks.commands i ≡ t.commands.lawful
-  pub beyond : (i : ℕ) → length tracks ≤ i → known_by (listed (f.streams i)) ≡ nothing_heard

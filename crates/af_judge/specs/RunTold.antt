@@ -1,14 +1,11 @@
 -- What a judge keeps of a run within a round: the mixers' sides of each track, whatever its client did, and the whole of each track whose client made a legal turn.
 use Rattle.std.specs.Prelude.{◌≡◌, ℕ, ◌≤◌, ◌^◌, false, List, length}
-use Rattle.af_base.specs.declared.state.FastState.{FastState}
 use Rattle.af_runs.specs.Blocks.{BlockTold, Marks, hand_list, server_list}
 use Rattle.af_runs.specs.Runs.{Run, TrackTold, told_at}
-use Rattle.af_runs.specs.Sessions.{Session, cycle_frames, setup_of, spec_of, track_count}
-use Rattle.af_runs.specs.Told.{state_at}
+use Rattle.af_runs.specs.Sessions.{Session, setup_of, spec_of, track_count}
 use Rattle.af_model.specs.ServerCalls.{server_begins}
 use Rattle.af_judge.specs.declared.track_judge.TrackJudge.{TrackJudge}
 use Rattle.af_judge.specs.Blocks.{AllFollow, BlockJudged, WholeTakes, taken_in}
-use Rattle.af_judge.specs.Entries.{CarriesApart, CarriesWithin}
 use Rattle.af_judge.specs.NormalJudged.{IsJudged, NormalJudged}
 use Rattle.af_judge.specs.NormalTold.{IsTrackAt}
 use Rattle.af_judge.specs.Tracks.{IsTrackOf}
@@ -45,13 +42,3 @@ pub record NormalOf (s : Session) (run : Run) (j : NormalJudged) : Type 0 where
   pub kept : j.plain.kept ≡ run.normal
   pub states : j.states ≡ run.states
   pub handed : j.handed ≡ run.handed
-
--- a state carries each track in one slot at most, and no track that isn't there
-pub record CarriesFit (s : Session) (x : FastState) : Type 0 where
-  pub apart : CarriesApart x
-  pub within : CarriesWithin (track_count s) x
-
--- each state of a run, and the draft, carries each track in one slot at most, and no track that isn't there
-pub record StatesFit (s : Session) (run : Run) : Type 0 where
-  pub pushed : (k : ℕ) → CarriesFit s (state_at (cycle_frames s) run.states k)
-  pub draft : CarriesFit s run.normal.draft

@@ -1,5 +1,5 @@
 -- What a judge keeps of the queue, the report and the pipe of a run within a round: what both ends did up to their last meeting, and what they did since then.
-use Rattle.std.specs.Prelude.{◌≡◌, ◌⊎◌, ℕ, ◌+◌, ◌<◌, ◌≤◌, ◌==◌, ◌||◌, Bool, false, List, [], ◌∷◌, ◌++◌, drop, if◌then◌else◌, length, map, Option, Some, None}
+use Rattle.std.specs.Prelude.{◌≡◌, ℕ, ◌+◌, ◌<◌, ◌≤◌, ◌==◌, ◌||◌, Bool, false, List, [], ◌∷◌, ◌++◌, drop, length, map, Option, Some, None}
 use Rattle.af_base.specs.declared.report.Report.{Report}
 use Rattle.af_base.specs.declared.state.FastState.{FastState}
 use Rattle.af_model.specs.declared.newest.ReaderEvent.{ReaderEvent}
@@ -18,16 +18,12 @@ use Rattle.af_model.specs.Reports.{no_report}
 use Rattle.af_model.specs.StateQueue as queued
 use Rattle.af_model.specs.StateQueue.{QueuePoint}
 use Rattle.af_runs.specs.Runs.{Run, pipe_cells, report_of}
-use Rattle.af_base.specs.Turn.{Turn}
 use Rattle.af_life.specs.Kept.{pipe_size}
-use Rattle.af_life.specs.Plays.{put_by}
 use Rattle.af_runs.specs.Sessions.{Session, cycle_frames, setup_of}
 use Rattle.af_runs.specs.Told.{Item, QueueTold, ReportTold, state_at, was_seen}
 use Rattle.af_judge.specs.declared.queue_judge.MutatorStep.{MutatorStep}
 use Rattle.af_judge.specs.declared.queue_judge.MutatorStep.TheVariants as steps
-use Rattle.af_judge.specs.declared.queue_judge.ObserverStep.{ObserverStep}
-use Rattle.af_judge.specs.declared.queue_judge.ObserverStep.TheVariants as looks
-use Rattle.af_judge.specs.PipeKept.{AreEnds, HasPipeOrder, PipeKept, front_by_room, saw_front, with_meeting, with_put}
+use Rattle.af_judge.specs.PipeKept.{AreEnds, HasPipeOrder, PipeKept, with_meeting}
 use Rattle.af_judge.specs.QueueNumbers.{HasRoundOrder, QueueKept, numbers, observed}
 use Rattle.af_judge.specs.QueueTold.{Fits, Follow, TellsLooks, TellsSteps}
 use Rattle.af_judge.specs.ReportKept.{IsLoadOf, ReportKept}
@@ -89,33 +85,9 @@ pub record QueueFollows (frames : ℕ) (states : List FastState) (current : ℕ)
   pub seen : seen_after q.mutator.pushed q.mutator.clear q.steps ≡ ((length states == 0) || was_seen (length states) told)
   pub none_beyond : (k : ℕ) → length states < k → was_seen k told ≡ false
 
--- some look finds a state beyond so many
-abbrev pub FindsBeyond : ℕ → List ObserverStep → Type 0
-FindsBeyond states [] = ⊥
-FindsBeyond states (looks.Found number ∷ ls) = (states < number) ⊎ FindsBeyond states ls
-FindsBeyond states (looks.Acknowledged number ∷ ls) = FindsBeyond states ls
-
--- some event is a look that finds a state beyond so many
-abbrev pub SeesBeyond : ℕ → List (ObserverEvent Item) → Type 0
-SeesBeyond states [] = ⊥
-SeesBeyond states (observer.SawNext k x items ∷ es) = (states < k) ⊎ SeesBeyond states es
-SeesBeyond states (observer.Ack k items ∷ es) = SeesBeyond states es
-SeesBeyond states (observer.Learn count ∷ es) = SeesBeyond states es
-
--- a poll found a state that wasn't pushed: neither the ends' lists nor the steps kept have a legal order
-pub record QueueLost (states : ℕ) (told : QueueTold) (q : QueueKept) : Type 0 where
-  pub sees : SeesBeyond states (twos told)
-  pub pushes : pushes_told (ones told) ≤ states
-  pub finds : FindsBeyond states q.looks
-  pub pushed : q.mutator.pushed + pushes_in q.steps ≤ states
-
 -- what is kept of the queue of a run in which each poll found a state that was pushed
 abbrev pub QueueGoes : Session → Run → QueueKept → Type 0
 QueueGoes s run q = QueueFollows (cycle_frames s) run.states run.current run.queue q
-
--- what is kept of the queue of a run, whatever its polls found
-abbrev pub QueueOf : Session → Run → QueueKept → Type 0
-QueueOf s run q = QueueGoes s run q ⊎ QueueLost (length run.states) run.queue q
 
 -- ## The report
 
@@ -153,10 +125,6 @@ pub record PipeOf (s : Session) (run : Run) (p : PipeKept) : Type 0 where
   pub takes : p.takes ≡ twos run.pipe.told
   pub put : p.put ≡ run.pipe.put
   pub taken : p.taken ≡ run.pipe.taken
-
--- the pipe after a turn: the room is seen, and a buffer put. One that ended leaves it
-abbrev pub pipe_noted : Session → Turn → PipeKept → PipeKept
-pipe_noted s e p = if e.ended then p else with_put (put_by (setup_of s) e.mixes) (saw_front (front_by_room p.size (length p.put) e.room) p)
 
 -- ## All three
 

@@ -1,10 +1,8 @@
 -- What a judge's turn of the normal mixer ensures, and which run it is a turn of.
-use Rattle.std.specs.Prelude.{◌≡◌, ℕ, true, false, List, length}
+use Rattle.std.specs.Prelude.{◌≡◌, true, false, List, length}
 use Rattle.af_base.specs.declared.report.Report.{Report}
 use Rattle.af_base.specs.Turn.{Turn, ended_turn}
 use Rattle.af_life.specs.Plain.{learnt_of}
-use Rattle.af_runs.specs.Found.{TurnFound}
-use Rattle.af_runs.specs.Runs.{Run, told_at}
 use Rattle.af_judge.specs.declared.track_judge.TrackJudge.{TrackJudge}
 use Rattle.af_judge.specs.NormalJudged.{Ends, Follows, IsJudged, NormalJudged}
 use Rattle.af_judge.specs.NormalTold.{IsTold, all_known}
@@ -16,8 +14,3 @@ pub record TurnJudged (report : Report) (e : Turn) (before after : List TrackJud
   pub follows : e.ended ≡ false → Follows (record j { handed = true }) (learnt_of report (all_known before)) e next
   pub ends : e ≡ ended_turn → Ends j next × (after ≡ before)
   pub told : e.ended ≡ false → IsTold j.plain.setup (learnt_of report (all_known before)) j.plain.kept e before after
-
--- the turn found the blocks of the run
-pub record FoundIn (f : TurnFound) (run : Run) : Type 0 where
-  pub streams : (i : ℕ) → f.streams i ≡ (told_at run i).stream
-  pub commands : (i : ℕ) → f.commands i ≡ (told_at run i).commands

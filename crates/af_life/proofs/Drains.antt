@@ -4,7 +4,8 @@ use Rattle.af_life.specs.declared.track.Known.{Known}
 use Rattle.af_life.specs.declared.track.Life.{Life}
 use Rattle.af_life.specs.Commands.{by_command, starts}
 use Rattle.af_life.specs.Reports.{by_report}
-use Rattle.af_life.specs.Drained.{LifeStep, told, heard_of, cut, life_of, stops, StoppedAt, most_heard, is_stopping, DrainsInOrder}
+use Rattle.af_life.specs.Drained.{LifeStep, told, heard_of, cut, life_of, stops, StoppedAt, most_heard}
+use Rattle.af_life.proofs.Words.{is_stopping, DrainsInOrder}
 use Rattle.af_life.proofs.Effects.{CommandEffect, ReportEffect, command_effect, report_effect}
 
 -- it was stopped by this very command

@@ -9,7 +9,8 @@ use Rattle.af_life.specs.declared.track.Known.{Known}
 use Rattle.af_life.specs.declared.track.Life.{Life}
 use Rattle.af_life.specs.Commands.{by_command, starts, commands, first_effect, opened, stoppable}
 use Rattle.af_life.specs.Reports.{by_report}
-use Rattle.af_life.specs.Drained.{stops, is_stopping, is_at_rest}
+use Rattle.af_life.specs.Drained.{stops}
+use Rattle.af_life.proofs.Words.{is_stopping, is_at_rest}
 
 pub record CommandEffect (stops starts : Bool) (argument : ℕ) (l t : Life) : Type 0 where
   pub stop : stops ≡ true → t.stop_at ≡ argument

@@ -2,7 +2,8 @@
 use Rattle.std.proofs.Common.{◌≡◌, ℕ, suc, ◌+◌, Bool, true, false, true≢false, if◌then◌else◌, ◌&&◌, fold, sym, refl, ap, ◌∙◌, List, [], ◌∷◌, ◌++◌, length, Option, arith}
 use Rattle.af_life.proofs.Common.{CommandLook, both}
 use Rattle.af_life.specs.declared.kept.TrackKept.{TrackKept}
-use Rattle.af_life.specs.Obeys.{after_look, goes_on, after_looks, are_due, all_go_on}
+use Rattle.af_life.specs.Obeys.{after_look, goes_on, after_looks, are_due}
+use Rattle.af_life.proofs.Words.{all_go_on}
 
 module _ (given : Option ℕ) (flush_seen : ℕ) where
   -- the track after some looks, all of which go on

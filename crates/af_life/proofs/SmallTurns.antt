@@ -6,7 +6,8 @@ use Rattle.af_life.specs.Kept.{Setup, asked, pipe_size, NormalKept, Learnt, trac
 use Rattle.af_life.specs.Edits.{after_ack, commands_exit, must_leave, must_enter, let_go, lend, edited, edited_to, next_command, commanded_by, ordered, mutated, after_push}
 use Rattle.af_life.specs.Plays.{after_takes}
 use Rattle.af_life.specs.Turn.{after_tracks, after_edits, turn_after}
-use Rattle.af_life.specs.Small.{IsSmallState, IsEdited, IsSmall, IsTurnUpTo, IsSmallTurn, most_tracks}
+use Rattle.af_life.specs.Small.{IsSmallState, IsEdited, IsSmall, most_tracks}
+use Rattle.af_life.proofs.Words.{IsTurnUpTo, IsSmallTurn}
 use Rattle.af_life.proofs.Lives.{acked_len, served_len, push_len, mutation_len}
 use Rattle.af_life.proofs.Smalls.{acked_small, all_served_small, edits_small, ordered_small, takes_small, weaker}
 

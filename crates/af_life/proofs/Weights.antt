@@ -2,7 +2,8 @@
 use Rattle.std.proofs.Common.{◌≡◌, ℕ, zero, suc, ◌+◌, ◌-◌, ◌*◌, ◌/◌, ◌<◌, ◌≤◌, List, [], ◌∷◌, length, arith}
 use Rattle.af_life.proofs.Common.{TrackSeen, Turn, fold, max}
 use Rattle.af_life.specs.Kept.{seen_at, track_in}
-use Rattle.af_life.specs.Small.{longest, turn_weight, most_tracks, IsTurnUpTo}
+use Rattle.af_life.specs.Small.{longest, turn_weight, most_tracks}
+use Rattle.af_life.proofs.Words.{IsTurnUpTo}
 
 abbrev longer : ℕ → TrackSeen → ℕ
 longer most seen = max most (length seen.looks)

@@ -1,9 +1,8 @@
 -- When a track is reported drained, and what that promises.
-use Rattle.std.specs.Prelude.{◌≡◌, ℕ, ◌/◌, ◌≤◌, ◌<◌, ◌==◌, ◌&&◌, not, max, Bool, true, false, if◌then◌else◌, is_some, MatchBool, List, [], ◌∷◌, ◌++◌, length, Option, Some, None}
+use Rattle.std.specs.Prelude.{◌≡◌, ℕ, ◌≤◌, ◌<◌, ◌==◌, ◌&&◌, not, max, Bool, true, false, if◌then◌else◌, is_some, MatchBool, List, [], ◌∷◌, ◌++◌, length, Option, Some, None}
 use Rattle.std.specs.Int.{bit_at}
 use Rattle.af_base.specs.declared.turn.CommandLook.{CommandLook}
 use Rattle.af_base.specs.Turn.{Turn, TrackSeen}
-use Rattle.af_life.specs.declared.state.LifeState.TheVariants.{Stopping1, Stopping2, Stopped, Flushed}
 use Rattle.af_life.specs.declared.track.Known.{Known}
 use Rattle.af_life.specs.declared.track.Life.{Life}
 use Rattle.af_life.specs.State.{new_life, is_among}
@@ -19,10 +18,6 @@ use Rattle.af_life.specs.TurnEvents.{tracks_at}
 -- a status with the mark of a drained track was stored
 abbrev pub reports_drained : TrackSeen → Bool
 reports_drained turn = elim turn.status as (λ status. Bool) [ None ↦ false | Some word ↦ bit_at word 4 == 1 ]
-
--- how many commands a status word counts as settled
-abbrev pub settled_in : ℕ → ℕ
-settled_in word = word / 256
 
 -- ## The steps of a life
 
@@ -60,24 +55,6 @@ most_heard [] = 0
 most_heard (told code argument ∷ steps) = most_heard steps
 most_heard (heard_of known ∷ steps) = max known.consumed (most_heard steps)
 most_heard (cut ∷ steps) = most_heard steps
-
--- a drained life was stopped at a count that was reached, and not started since
-abbrev pub IsDrainedBy : List LifeStep → Type 0
-IsDrainedBy steps = (count : ℕ) × StoppedAt count steps × (count ≤ most_heard steps)
-
--- the life is on its way to a stop
-abbrev pub is_stopping : Life → Bool
-is_stopping life = is_among (Stopping1 ∷ []) life.state
-
--- the life is in a state in which no STOP has an effect
-abbrev pub is_at_rest : Life → Bool
-is_at_rest life = is_among (Stopping2 ∷ Stopped ∷ Flushed ∷ []) life.state
-
--- A life on its way to a stop, or drained, was stopped at its count and not started since; a drained life has reached its count, and is at rest
-pub record DrainsInOrder (steps : List LifeStep) : Type 0 where
-  pub stopping : is_stopping (life_of steps) ≡ true → StoppedAt (life_of steps).stop_at steps
-  pub drained : (life_of steps).drained ≡ true → StoppedAt (life_of steps).stop_at steps × ((life_of steps).stop_at ≤ most_heard steps)
-  pub at_rest : (life_of steps).drained ≡ true → is_at_rest (life_of steps) ≡ true
 
 -- ## The steps of a track in some turns
 

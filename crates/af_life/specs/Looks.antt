@@ -5,7 +5,6 @@ use Rattle.af_base.specs.declared.event.ServerEvent.TheVariants as server
 use Rattle.af_base.specs.declared.log.SlotEntry.{SlotEntry}
 use Rattle.af_base.specs.declared.turn.CommandLook.{CommandLook}
 use Rattle.af_model.specs.Cycles.{Listed, kept, LooksBy}
-use Rattle.af_model.specs.Point.{wrapped}
 use Rattle.af_model.specs.ServerCalls.{look_events}
 use Rattle.af_life.specs.Obeys.{shows_command}
 
@@ -47,7 +46,3 @@ words_taken [] = []
 words_taken (look ∷ looks) = (if shows_command look.seen then look.code ∷ look.argument ∷ [] else []) ++ words_taken looks
 
 -- ## The fronts on a block whose client has not poked
-
--- the front is that of the frames taken and dropped before
-abbrev pub front_given : Listed → ℕ
-front_given s = wrapped (s.shape.base + (kept s).consumed)

@@ -87,8 +87,3 @@ are_due zero given flush_seen (look ∷ looks) s = false
 are_due (suc n) given flush_seen [] s = false
 are_due (suc n) given flush_seen (look ∷ looks) s = let t = after_look given flush_seen look s in
     if goes_on look t then are_due n given flush_seen looks t else length looks == 0
-
--- each of these looks goes on, so that the next one follows
-abbrev pub all_go_on : Option ℕ → ℕ → List CommandLook → TrackKept → Bool
-all_go_on given flush_seen [] s = true
-all_go_on given flush_seen (look ∷ looks) s = let t = after_look given flush_seen look s in goes_on look t && all_go_on given flush_seen looks t

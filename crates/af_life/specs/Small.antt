@@ -7,7 +7,7 @@ use Rattle.af_base.specs.Turn.{Turn, TrackSeen}
 use Rattle.af_model.specs.StateQueue.{slot_of}
 use Rattle.af_life.specs.declared.kept.Counts.{Counts}
 use Rattle.af_life.specs.declared.kept.TrackKept.{TrackKept}
-use Rattle.af_life.specs.Kept.{Setup, NormalKept, track_at, track_in, slot_number}
+use Rattle.af_life.specs.Kept.{Setup, NormalKept, track_at, slot_number}
 
 -- how many tracks there are at most, and how many takes a turn makes at most
 abbrev pub most_tracks : ℕ
@@ -45,15 +45,6 @@ pub record IsSmall (turns : ℕ) (c : Setup) (m : NormalKept) : Type 0 where
   pub tracks : AreSmall (65 * turns) (most_tracks * turns) m.tracks
   pub draft : IsSmallState (most_tracks * turns) turns m.draft
   pub pushed : m.pushed ≤ turns
-
--- an entry with at most so many takes, and at most 64 looks at each track for each unit of a weight
-pub record IsTurnUpTo (weight : ℕ) (e : Turn) : Type 0 where
-  pub looks : (i : ℕ) → length (track_in e i).looks ≤ 64 * weight
-  pub mixes : length e.mixes ≤ most_tracks
-
--- an entry that holds no more than a turn makes
-abbrev pub IsSmallTurn : Turn → Type 0
-IsSmallTurn e = IsTurnUpTo 1 e
 
 -- the most looks at one track
 abbrev pub longest : List TrackSeen → ℕ

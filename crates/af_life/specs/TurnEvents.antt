@@ -7,12 +7,9 @@ use Rattle.af_base.specs.declared.event.HandEvent.{HandEvent}
 use Rattle.af_base.specs.declared.event.HandEvent.TheVariants as hand
 use Rattle.af_base.specs.declared.event.ServerEvent.{ServerEvent}
 use Rattle.af_base.specs.declared.event.ServerEvent.TheVariants as server
-use Rattle.af_base.specs.declared.report.Report.{Report}
 use Rattle.af_base.specs.declared.state.Push.{Push}
 use Rattle.af_base.specs.declared.state.Push.TheVariants.{Pushed, Clean, Busy}
 use Rattle.af_base.specs.Turn.{Turn, TakeSeen, TrackSeen}
-use Rattle.af_model.specs.declared.newest.ReaderEvent.{ReaderEvent}
-use Rattle.af_model.specs.declared.newest.ReaderEvent.TheVariants.{Load}
 use Rattle.af_model.specs.declared.states.MutatorEvent.{MutatorEvent}
 use Rattle.af_model.specs.declared.states.MutatorEvent.TheVariants as mutator
 use Rattle.af_model.specs.Cycles.{cycle_events}
@@ -71,10 +68,6 @@ stream_list c o e tracks i =
     going e ((if is_home (track_at tracks i).holder then invalid (learnt o) (track_in e i) tracks i else []) ++ mix_events c o e.mixes i)
 
 -- ## The other ends
-
--- the events of the reader of the report: the report n is that of n entries
-abbrev pub reader_list : Outside → Turn → List (ReaderEvent Report)
-reader_list o e = going e (Load e.cycle o.report ∷ [])
 
 -- the front by which a pipe of this size, into which so many frames were put, has this room
 abbrev pub front_by_room : ℕ → ℕ → ℕ → ℕ

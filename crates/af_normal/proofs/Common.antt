@@ -38,14 +38,16 @@ pub use Rattle.af_life.specs.Heard.{counts_in, heard, heard_by, heard_with, is_r
 unfoldable pub use Rattle.af_life.specs.Heard.{noted, settled_at}
 pub use Rattle.af_life.specs.Kept.{Learnt, NormalKept, Outside, Setup, asked, is_home, is_lent, is_returning, new_normal, new_track, no_counts, nothing_heard, nothing_seen, number_of, pipe_size, plays, seen_at, setting_of, slot_number, track_at, track_in}
 pub use Rattle.af_life.specs.Looks.{LegalLooks, all_command_events, as_slot, command_events, words_taken}
-pub use Rattle.af_life.specs.Obeys.{after_looks, all_go_on, are_due, ended, free_slot, goes_on, holds, is_shut, must_wait, opens, shows_command, slot_for, told}
+pub use Rattle.af_life.specs.Obeys.{after_looks, are_due, ended, free_slot, goes_on, holds, is_shut, must_wait, opens, shows_command, slot_for, told}
+pub use Rattle.af_life.proofs.Words.{all_go_on}
 unfoldable pub use Rattle.af_life.specs.Obeys.{after_look, obeyed}
 pub use Rattle.af_life.specs.Plays.{LegalTake, after_take, after_takes, look_counted, is_mixed_here, put_by, tracks_due}
 pub use Rattle.af_life.specs.Reports.{Case, reports}
 unfoldable pub use Rattle.af_life.specs.Reports.{by_report}
 pub use Rattle.af_life.specs.Serves.{IsServed, LegalTrack, is_found_shut, most_looks, served_to, status_word, with_served}
 unfoldable pub use Rattle.af_life.specs.Serves.{after_part, served}
-pub use Rattle.af_life.specs.Small.{AreUpTo, IsSmall, IsSmallTurn, most_tracks}
+pub use Rattle.af_life.specs.Small.{AreUpTo, IsSmall, most_tracks}
+pub use Rattle.af_life.proofs.Words.{IsSmallTurn}
 pub use Rattle.af_life.specs.Sound.{AreAlone, IsDrafted, IsSlotted, IsSound}
 pub use Rattle.af_life.specs.Turn.{GoesOn, LegalTurn, after_edits, after_tracks}
 unfoldable pub use Rattle.af_life.specs.Turn.{turn_after}

@@ -2,7 +2,7 @@
 use Rattle.std.proofs.Common.{◌≡◌, ◌≢◌, ℕ, zero, suc, ◌+◌, ◌<◌, ◌≤◌, ◌==◌, ◌||◌, Bool, true, false, if◌then◌else◌, true≢false, MatchBool, ◌⊎◌, inl, inr, sym, refl, ap, subst, ◌∙◌, List, [], ◌∷◌, length, Option, Some, None, get_or-set_other, arith}
 use Rattle.af_normal.proofs.Common.{Busy, Clean, Command, Heard, Learnt, LegalPush, Mutates, NormalKept, Push, Pushed, Returning, SeesIt, ServerState, Setup, StreamNames, WasPushed, after_push, code_of, commanded_by, commands_exit, draft_commanded as with_command, edited, edited_to, known_by, lend, lent_by, let_go, listed, must_enter, must_leave, mutated, next_command, or_false, or_true, ordered, pipe_size, saw, shows, slice_set, slot_number, track_at, word}
 use Rattle.af_normal.specs.Editing.{LetsGo, Lends, lets_go, lends}
-use Rattle.af_normal.specs.LegalKept.{kept_open}
+use Rattle.af_normal.proofs.Words.{kept_open}
 use Rattle.af_normal.specs.Mixing.{stream_at}
 use Rattle.af_normal.specs.Mutating.{EditsTrack, EditsTo, EditsAll, Pushes, begun, commands, finished, due_command}
 use Rattle.af_normal.specs.State.{NormalState, setup_of, kept_of}

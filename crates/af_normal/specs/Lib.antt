@@ -3,7 +3,6 @@ pub mod Coming
 pub mod Commands
 pub mod Editing
 pub mod Making
-pub mod LegalKept
 pub mod LegalTurned
 pub mod Lends
 pub mod Meeting

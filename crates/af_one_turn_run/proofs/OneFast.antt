@@ -5,7 +5,7 @@ use Rattle.af_model.specs.declared.states.ObserverEvent.TheVariants as observer
 use Rattle.af_model.specs.Order.{point_after as after_both}
 use Rattle.af_model.specs.PipeHistory as piped
 use Rattle.af_model.specs.StateQueue as queued
-use Rattle.af_judge.specs.RunTold.{CarriesFit}
+use Rattle.af_judge.proofs.Words.{CarriesFit}
 use Rattle.af_one_turn_run.proofs.Growing.{IsCounted, told_before}
 use Rattle.af_one_turn_run.proofs.OneEntry.{IsEntryTold, IsBeforeEntry, one_entry}
 use Rattle.af_one_turn_run.proofs.OneTurn.{IsBlockTold}

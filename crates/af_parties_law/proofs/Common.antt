@@ -75,7 +75,7 @@ pub use Rattle.af_session.specs.Ends.{EndsState}
 pub use Rattle.af_session.specs.FastTurns.{IsCycle, IsFastTurn, WritesCycle}
 pub use Rattle.af_session.specs.Met.{Met, TrackMet}
 pub use Rattle.af_session.specs.NewSession.{IsNewSession, tracks_of}
-pub use Rattle.af_session.specs.NewTracks.{IsTrackAt}
+pub use Rattle.af_session.proofs.Words.{IsTrackAt}
 pub use Rattle.af_session.specs.Rounds.{Given, IsRound, NormalTurned, fast_round, file_at, no_calls, normal_round, ops_at, still_round, with_ends}
 pub use Rattle.af_session.specs.Shown.{calls_over, released_by, shown_at, shown_by, turn_in, use_of}
 unfoldable pub use Rattle.af_session.specs.Shown.{shows}

@@ -7,7 +7,8 @@ use Rattle.af_cblk.specs.declared.view.ClientPart.{ClientPart}
 use Rattle.af_life.specs.Plays.{put_by}
 use Rattle.af_normal.specs.State.{setup_of as mixer_setup}
 use Rattle.af_told_law.specs.Leads.{Tells as TellsPushes}
-use Rattle.af_play_law.specs.RoundPlayed.{HearsForeseen, PlayStands, RoundPlayed}
+use Rattle.af_play_law.specs.RoundPlayed.{PlayStands, RoundPlayed}
+use Rattle.af_play_law.proofs.Words.{HearsForeseen}
 use Rattle.af_play_law.proofs.BeforeTurn.{cycles_commands}
 use Rattle.af_play_law.proofs.Cycled.{CyclesAre}
 use Rattle.af_play_law.proofs.CyclesTold.{AllShown, CyclesTold, cycles_told, go_none, same_after}

@@ -20,7 +20,7 @@ use Rattle.af_enough_law.proofs.Following.{greeted_alike, greeted_in}
 use Rattle.af_enough_law.proofs.RestTurns.{draft_after_turn}
 use Rattle.af_enough_law.proofs.Served.{greeted_at}
 use Rattle.af_enough_law.proofs.Slots.{IsOpened, slot_stays}
-use Rattle.af_play_law.specs.AwaySlots.{SlotStaysAway}
+use Rattle.af_play_law.proofs.Words.{SlotStaysAway}
 
 -- ## Small lemmas
 

@@ -5,7 +5,8 @@ use Rattle.std.proofs.lemmas.Grind.{fold-append}
 use Rattle.af_normal.specs.State.{setup_of as mixer_setup}
 use Rattle.af_told_law.specs.Leads.{Tells as TellsPushes}
 use Rattle.af_play_law.specs.Loads.{LoadsOneOf, MetLast}
-use Rattle.af_play_law.specs.RoundPlayed.{HearsForeseen, PlayStands, ReportsCount, RoundPlayed}
+use Rattle.af_play_law.specs.RoundPlayed.{PlayStands, ReportsCount, RoundPlayed}
+use Rattle.af_play_law.proofs.Words.{HearsForeseen}
 use Rattle.af_play_law.proofs.AfterTurn.{finds, front_shown}
 use Rattle.af_play_law.proofs.Cycled.{CyclesAre}
 use Rattle.af_play_law.proofs.CyclesGrow.{EndsGrow, turned_grows}

@@ -10,7 +10,7 @@ use Rattle.af_runs.specs.Fronts.{is_shown}
 use Rattle.af_runs.proofs.StatesFor.{polled_known, polled_waits, state_beyond, state_pushed, state_waits}
 use Rattle.af_judge.proofs.EntryTold.{cycle_beside}
 use Rattle.af_audit.proofs.Late.{PlaysAt, listed_played, played_listed, plays_at, plays_none}
-use Rattle.af_play_law.specs.AwaySlots.{SlotStaysAway}
+use Rattle.af_play_law.proofs.Words.{SlotStaysAway}
 
 -- ## Lists of reports
 

@@ -3,7 +3,7 @@ use Rattle.std.proofs.Common.{◌≡◌, ℕ, ◌<◌, ◌≤◌, if◌then◌el
 use Rattle.af_play_law.proofs.Common.{AllByRecursion, Carried, EntrySeen, FastState, FirstLate, IsDone, Learnt, LegalEntries, LegalTurnBy, Marks, Outside, Report, Run, ServerEvent, Session, Setting, Setup, TrackKept, TrackTold, Turn, TurnFound, after_ack, after_edits, each_at, each_long, hand_does, hand_events_of, commands_exit, is_home, is_pushed, last_report, last_used, learnt, listed, no_slot, no_track, not_yet, outside_of, report_at, report_of, server_list, setup_of, slot_number, slots, stream_list, told_at, track_at, tracks_at, turned_track, with_cycles, with_poll, with_turn}
 use Rattle.af_audit.proofs.Quiet.{stream_quiet}
 use Rattle.af_audit.proofs.TrackStands.{hand-server, server-server}
-use Rattle.af_play_law.specs.AwaySlots.{SlotStaysAway}
+use Rattle.af_play_law.proofs.Words.{SlotStaysAway}
 use Rattle.af_play_law.proofs.AwaySlots.{slot_stays_away}
 use Rattle.af_play_law.proofs.Foretold.{Alike, alike_on, at_slot, numbers_same, same_report}
 

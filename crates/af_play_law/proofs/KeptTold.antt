@@ -8,7 +8,8 @@ use Rattle.af_told_law.proofs.EndsKept.{SawAtHome, ends_keep_lists}
 use Rattle.af_told_law.proofs.TrackMeets.{tracks_are}
 use Rattle.af_play_law.specs.KeptPlays.{PlaysKeepTheirLists}
 use Rattle.af_play_law.specs.PlayRuns.{PlaysOn}
-use Rattle.af_play_law.specs.RoundPlayed.{HearsForeseen, PlayStands, RoundPlayed}
+use Rattle.af_play_law.specs.RoundPlayed.{PlayStands, RoundPlayed}
+use Rattle.af_play_law.proofs.Words.{HearsForeseen}
 use Rattle.af_play_law.specs.Rounds.{RoundStands}
 use Rattle.af_play_law.proofs.Foreseen.{hears_foreseen}
 use Rattle.af_play_law.proofs.PlayEnds.{after_normal}

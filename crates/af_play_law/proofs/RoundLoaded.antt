@@ -3,7 +3,8 @@ use Rattle.std.proofs.Common.{◌≡◌, ◌⊎◌, ℕ, Bool, true, false, if�
 use Rattle.af_play_law.proofs.Common.{Deeds, IsLegal, Links, Load, MatchBool, NormalState, Outside, QueueKnown, ReaderEvent, ReaderSide, Report, RoundSeen, Run, Session, SessionState, Tells, Turn, TurnPlayed, WriterEvent, after_turn, all_played, cycle_frames, going, late_of, loaded, max, report_of, reports_stored, stores, turn_of, with_cycles}
 use Rattle.af_told_law.proofs.LoadTold.{known_loaded, load_told}
 use Rattle.af_play_law.specs.Loads.{LoadsOneOf, MetLast}
-use Rattle.af_play_law.specs.RoundPlayed.{HearsForeseen, PlayStands, ReportsCount, RoundPlayed}
+use Rattle.af_play_law.specs.RoundPlayed.{PlayStands, ReportsCount, RoundPlayed}
+use Rattle.af_play_law.proofs.Words.{HearsForeseen}
 use Rattle.af_play_law.proofs.AfterTurn.{late_told, told_unloaded, turn_told}
 use Rattle.af_play_law.proofs.BeforeTurn.{known_quiet, quiet_cycles}
 use Rattle.af_play_law.proofs.CyclesGrow.{EndsGrow, turned_grows}

@@ -8,7 +8,8 @@ use Rattle.af_told_law.proofs.AllMeet.{met_histories, tells_met}
 use Rattle.af_told_law.proofs.EndsTold.{ends_told}
 use Rattle.af_told_law.proofs.SlotHeld.{found_carries, is_held}
 use Rattle.af_play_law.specs.Rounds.{RoundIsTold}
-use Rattle.af_play_law.specs.RoundPlayed.{HearsForeseen, PlayStands, RoundPlayed}
+use Rattle.af_play_law.specs.RoundPlayed.{PlayStands, RoundPlayed}
+use Rattle.af_play_law.proofs.Words.{HearsForeseen}
 use Rattle.af_play_law.proofs.AfterTurn.{late_told, turn_told}
 use Rattle.af_play_law.proofs.Cycled.{chain_entries}
 use Rattle.af_play_law.proofs.CyclesTold.{HasShapes, SameShapes, go_then, saw_back, shapes_same, shapes_told, shapes_then}

@@ -3,7 +3,8 @@ use Rattle.std.proofs.Common.{◌≡◌, ◌⊎◌, ⊎_elim, ℕ, ◌<◌, ◌|
 use Rattle.af_play_law.proofs.Common.{Deeds, IsMarkedRun, IsRoundMarked, Links, Marks, RoundSeen, Run, SawOwnBy, SawOwnOf, Session, SessionState, Shape, Tells, after_round, all_played, and_parts, either, takes_part, told_at, track_count}
 use Rattle.af_session.specs.Rounds.{with_ends}
 use Rattle.af_play_law.specs.PlayRuns.{PlayHolds, PlaysOn, RunIsTold, RunsAreTold, all_over, meets_from, sure_marks}
-use Rattle.af_play_law.specs.RoundPlayed.{HearsForeseen, RoundPlayed}
+use Rattle.af_play_law.specs.RoundPlayed.{RoundPlayed}
+use Rattle.af_play_law.proofs.Words.{HearsForeseen}
 use Rattle.af_play_law.specs.Rounds.{RoundStands}
 use Rattle.af_play_law.proofs.AfterTurn.{late_told}
 use Rattle.af_play_law.proofs.CyclesTold.{SameShapes, go_none, go_then, saw_first}

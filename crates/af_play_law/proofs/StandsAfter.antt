@@ -7,7 +7,8 @@ use Rattle.af_normal.specs.State.{setup_of}
 use Rattle.af_told_law.specs.Leads.{Tells as TellsPushes}
 use Rattle.af_told_law.proofs.QueueSteps.{learnt_by, step_met, tells_met}
 use Rattle.af_session.specs.Rounds as parties
-use Rattle.af_play_law.specs.RoundPlayed.{HearsForeseen, PlayStands, RoundPlayed}
+use Rattle.af_play_law.specs.RoundPlayed.{PlayStands, RoundPlayed}
+use Rattle.af_play_law.proofs.Words.{HearsForeseen}
 use Rattle.af_play_law.specs.Rounds.{RoundStands, RoundsAreTold}
 use Rattle.af_play_law.proofs.CarriedRound.{carried_round}
 use Rattle.af_play_law.proofs.Foreseen.{hears_foreseen}

@@ -4,6 +4,5 @@ pub mod RoundPlayed
 pub mod Rounds
 pub mod PlayRuns
 pub mod InTime
-pub mod AwaySlots
 pub mod PlayLaws
 pub mod KeptPlays

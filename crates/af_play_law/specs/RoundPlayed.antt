@@ -1,13 +1,9 @@
 -- A round of all parties of which a run tells what came before.
 use Rattle.std.specs.Prelude.{◌≡◌, ℕ, ◌<◌, List, length, drop, slice_get, Some}
-use Rattle.af_base.specs.Turn.{turn_of}
 use Rattle.af_judge.specs.StatesKept.{Carried}
-use Rattle.af_life.specs.Kept.{Outside}
 use Rattle.af_link.specs.declared.links.Links.{Links}
 use Rattle.af_model.specs.Journals.{RoundSeen, entries_seen}
-use Rattle.af_normal.specs.LegalTurned.{IsLegal}
 use Rattle.af_party.specs.Parties.{PartyState}
-use Rattle.af_runs.specs.Rounds.{found_in}
 use Rattle.af_runs.specs.Runs.{Run, calls_in, pipe_cells}
 use Rattle.af_runs.specs.Sessions.{Session, cycle_frames, setup_of}
 use Rattle.af_session.specs.Met.{Met}
@@ -16,7 +12,6 @@ use Rattle.af_side_by_side.specs.SideBySide.{AllPlayed, turn_noted}
 use Rattle.af_told_law.specs.Between.{StandsBetween}
 use Rattle.af_told_law.specs.Deeds.{Deeds}
 use Rattle.af_told_law.specs.MixLaws.{TookCounted}
-use Rattle.af_told_law.specs.NormalLaws.{HearsFound}
 use Rattle.af_told_law.specs.QueueTurned.{QueueKnown, ReportMet}
 use Rattle.af_told_law.specs.Sizes.{IsSmallRun}
 use Rattle.af_told_law.specs.Tells.{Tells, given_of}
@@ -54,7 +49,3 @@ pub record RoundPlayed (links : Links) (s : Session) (x u z : SessionState) (byt
   pub met : AreTogether links z
   pub room : length x.fast.log.entries < x.fast.cycles
   pub notes : RoundNotes x u round
-
--- Of the proxies that aren't home the report which the normal mixer loaded says what the run foresees: the entries of a state that the turn itself pushes counted by the draft before it
-abbrev pub HearsForeseen : Session → Run → SessionState → SessionState → RoundSeen → Type 0
-HearsForeseen s run x u round = (o : Outside) → IsLegal o x.normal u.normal → HearsFound x.normal u.normal o (found_in s run round (turn_of u.normal.entry))

@@ -11,7 +11,8 @@ use Rattle.af_playing.proofs.InTime.{never_cut_off}
 use Rattle.af_playing.specs.declared.answering.PlayFault.{PlayFault}
 use Rattle.af_playing.specs.declared.answering.PlayFault.TheVariants as fault
 use Rattle.af_playing.specs.PlayKept.{Answers, IsCutPlay, IsDonePlay, KeepsFiles, KeepsPlay, TookFew}
-use Rattle.af_playing.specs.PlayedRuns.{AtLimit, HandedBack, HandsBackRun, HasStoreCause, KeepsPromises, LeavesRun, all_ended, is_limit}
+use Rattle.af_playing.specs.PlayedRuns.{AtLimit, HandedBack, HandsBackRun, HasStoreCause, KeepsPromises, LeavesRun, all_ended}
+use Rattle.af_playing.proofs.Words.{is_limit}
 use Rattle.af_playing.specs.PlayedStages.{HasPlayed}
 use Rattle.af_playing.proofs.PlayCauses.{cause_behind}
 use Rattle.af_playing.proofs.PlayAnswers.{at_fault, cause_cut, cut_by, cut_off, handed, hands_back, if_ok_always, if_ok_three, leaves, limit_two, never_limited, off_limit}

@@ -5,7 +5,8 @@ use Rattle.af_io.specs.declared.store.StoreError.TheVariants as store
 use Rattle.af_playing.proofs.Basics.{no_want}
 use Rattle.af_playing.specs.declared.answering.PlayFault.{PlayFault}
 use Rattle.af_playing.specs.declared.answering.PlayFault.TheVariants as fault
-use Rattle.af_playing.specs.PlayedRuns.{AtFault, AtLimit, HandedBack, HandsBackRun, HasStoreCause, LeavesRun, Plays, all_ended, fault_of, is_full, is_limit}
+use Rattle.af_playing.specs.PlayedRuns.{AtFault, AtLimit, HandedBack, HandsBackRun, HasStoreCause, LeavesRun, Plays, all_ended, fault_of, is_full}
+use Rattle.af_playing.proofs.Words.{is_limit}
 use Rattle.af_playing.proofs.PlayCauses.{cause_ok}
 
 -- ## Answers

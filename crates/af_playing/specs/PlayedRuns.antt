@@ -101,11 +101,6 @@ IsLegalJournal false script files journal = IsCutRun script files journal × (Ha
 
 -- ## Why a run was not played to its end
 
--- whether a play was cut off, with its log full
-abbrev pub is_limit : PlayFault → Bool
-is_limit (fault.CycleLimit journal ends) = true
-is_limit _ = false
-
 -- the fault of a play, by the store's refusal
 abbrev pub fault_of : StoreError → PlayFault
 fault_of store.Failed = fault.Store

@@ -1,7 +1,7 @@
 -- A session that was made new is ready for its first round. What its rounds come to.
 use Rattle.std.proofs.Common.{◌≡◌, ℕ, ◌<◌, ◌≤◌, ◌++◌, List, [], length, slice_get, Some, refl, sym, ap, subst, ◌∙◌, arith}
 use Rattle.af_rendering.proofs.Common.{AreTogether, CanWork, Frame, Given, IsNewSession, IsReady, Links, MixerState, NormalState, Op, PartyState, RoundNoted, ScriptData, SessionState, SharedState, TurnSpec, file_at, frames_to_come, ops_at, ops_of, pcm_of, same_Some, slice_get_within, tracks_of, whole_new}
-use Rattle.af_session.specs.NewTracks.{IsTrackAt}
+use Rattle.af_session.proofs.Words.{IsTrackAt}
 use Rattle.af_rendering.specs.Rendered.{HaveFiles, Rendered, Renders, Runs}
 
 module _ (script : ScriptData) (shared : SharedState) (s : SessionState) (new : IsNewSession script shared s) (files : List (List Frame)) where

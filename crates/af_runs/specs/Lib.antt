@@ -11,5 +11,4 @@ pub mod Rounds
 pub mod LegalRuns
 pub mod TurnRuns
 pub mod Pcm
-pub mod Summed
 pub mod KeptLists

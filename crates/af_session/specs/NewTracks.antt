@@ -5,7 +5,7 @@ use Rattle.af_base.specs.Sample.{packed_word}
 use Rattle.af_cblk.specs.Sides.{Made}
 use Rattle.af_engine.specs.declared.ends.TrackEnds.{TrackEnds}
 use Rattle.af_engine.specs.declared.spec.EngineTrack.{EngineTrack}
-use Rattle.af_engine.specs.NewTracks.{AreNewTracks as AreTracks, IsNewClient, IsNewLine, IsTrackAt as IsAt}
+use Rattle.af_engine.specs.NewTracks.{AreNewTracks as AreTracks, IsNewClient, IsNewLine}
 use Rattle.af_runs.specs.Clients.{new_client as new_wants}
 use Rattle.af_runs.specs.ClientTurns.{Track, new_side}
 use Rattle.af_runs.specs.Kept.{client_of}
@@ -54,10 +54,6 @@ pub record IsNewTrack (version place : ℕ) (spec : TrackSpec) (stream command :
   pub command_line : IsNewLine command_shape command p.command t.command
   pub setting_is : setting_of t ≡ spec_setting spec
   pub party : IsNewParty version place spec p
-
--- in each list the track of a place has its part at that place
-abbrev pub IsTrackAt : ℕ → ℕ → List TrackSpec → List Made → List Made → List PartyState → TrackList → Type 0
-IsTrackAt version place specs streams commands clients tracks = IsAt (IsNewTrack version) place specs streams commands clients tracks
 
 -- the lists have the first tracks of so many, and no others
 abbrev pub AreNewTracks : ℕ → ℕ → List TrackSpec → List Made → List Made → List PartyState → TrackList → Type 0

@@ -4,7 +4,7 @@ use Rattle.af_told_law.proofs.Common.{ClientPart, Frame, HandSide, IsNewSession,
 use Rattle.af_runs.specs.Runs.{new_told_track}
 use Rattle.af_script.specs.declared.op.Op.{Op}
 use Rattle.af_engine.specs.NewTracks.{IsNewServer}
-use Rattle.af_session.specs.NewTracks.{IsTrackAt}
+use Rattle.af_session.proofs.Words.{IsTrackAt}
 use Rattle.af_told_law.specs.Tells.{Tells, TellsCommands, TellsFast, TellsNormal, TellsServer, TellsShared, TellsStream, TellsTrack, given_of, marked_poll, reports_stored}
 use Rattle.af_told_law.proofs.KeptAlike.{same_alike}
 use Rattle.af_told_law.specs.Deeds.{DeedTold, Deeds, done_on}

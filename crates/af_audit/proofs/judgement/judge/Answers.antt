@@ -1,7 +1,7 @@
 use Rattle.std.proofs.Common.{List, arith, refl, sym, subst}
 use Rattle.af_audit.proofs.Common.{TrackJudge, marks_of, new_run, session_of}
 use Rattle.af_audit.specs.RunKept.{KeepsRun}
-use Rattle.af_audit.specs.RunLaws.{MayBeJudged}
+use Rattle.af_audit.proofs.Words.{MayBeJudged}
 use Rattle.af_audit.proofs.JournalJudged.{cut_judged, legal_judged}
 use Rattle.af_audit.proofs.NewRun.{new_kept}
 use Rattle.af_audit.proofs.judgement.judge.Goals as goal

@@ -1,4 +1,4 @@
--- What a mixer leaves from turn to turn, while its draft is edited.
+-- Words that lemmas alone speak of.
 use Rattle.std.specs.Prelude.{◌||◌}
 use Rattle.af_life.specs.Kept.{NormalKept}
 use Rattle.af_normal.specs.State.{NormalState, kept_of}
