@@ -15,9 +15,8 @@ use Rattle.af_script.specs.declared.op.Op.TheVariants as op
 use Rattle.af_runs.specs.Blocks.{BlockTold, new_block, client_list, server_list, listed, client_does, server_does, meets}
 use Rattle.af_runs.specs.Fronts.{front_of, lawful_front, fronts_by}
 use Rattle.af_base.specs.declared.event.ServerEvent.{ServerEvent}
-use Rattle.af_runs.specs.KeptLists.{shows}
-use Rattle.af_runs.proofs.Words.{AnswerAlike, sure_count}
-use Rattle.af_runs.specs.KeptLists as alike
+use Rattle.af_runs.proofs.Words.{AnswerAlike, shows, sure_count}
+use Rattle.af_runs.proofs.Words as alike
 use Rattle.af_runs.specs.Pcm.{journal_pcm}
 use Rattle.af_runs.specs.Runs.{Run, new_run, with_calls, with_poll, with_mix, with_cycle, each_track, called_in_turn, told_at, found_before, met, last_report, takes_part, known_of, stream_met}
 use Rattle.af_runs.specs.Sessions.{Session}
