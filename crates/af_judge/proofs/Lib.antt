@@ -14,6 +14,7 @@ pub mod Placed
 pub mod TakenRuns
 pub mod FrameWords
 pub mod SlotsAdded
+pub mod SlotsIn
 pub mod Judging
 pub mod WantedNext
 pub mod CallKept

@@ -240,6 +240,7 @@ impl BlockJudge {
     // ## The server and the hand
 
     // The block's server did this.
+    #[inline(always)]
     fn server_does(&mut self, event: ServerEvent) -> Result<(), Memory>
         ensures told { OnOk result (self.new ≡ server_more (event ∷ []) self.old) }
     {

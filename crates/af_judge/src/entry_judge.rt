@@ -1,9 +1,11 @@
 //! Whether an entry of the fast mixer is what its state makes it, but for what its slots saw.
-ghost use Rattle.std.specs.Prelude.{◌≡◌, ◌↔◌, ◌<◌, IsTrue, suc, if◌then◌else◌};
+ghost use Rattle.std.specs.Prelude.{◌≡◌, ◌↔◌, ℕ, ◌<◌, ◌≤◌, IsTrue, false, suc, if◌then◌else◌};
+ghost use Rattle.std.specs.Int.{bit_at};
 ghost use Rattle.std.specs.Option.{option_map};
 ghost use Rattle.af_base.specs.Log.{slots};
 ghost use Rattle.af_model.specs.Cycles.{cold_of, cycle_of, is_cold, is_mixed, is_mono, mix_scale, mono_marks, shown, submix_slot};
 ghost use Rattle.af_model.specs.Point.{wrapped};
+ghost use Rattle.af_model.specs.StateQueue.{carries};
 ghost use Rattle.af_judge.specs.EntryMarks.{HasNoOthers, HasScales, IsMarkedBy};
 
 use af_base::{Command, Cycle, CycleEntry, FastState, SLOTS, Seen, SlotEntry};
@@ -74,12 +76,28 @@ fn marks_to(marks: u32, state: &FastState, slot: usize) -> u32
     marks
 }
 
+// How many bits a mask has up to its last one.
+fn bits_in(mask: u32) -> usize
+    ensures few { result ≤ slots }
+    ensures rest { (i : ℕ) → result ≤ i → bit_at mask i ≡ 0 }
+{
+    (u32::BITS - mask.leading_zeros()) as usize
+}
+
+/// How many slots there are up to the last one of a state's mask: it carries no later one.
+pub fn slots_in(state: &FastState) -> usize
+    ensures few { result ≤ slots }
+    ensures rest { (i : ℕ) → result ≤ i → carries state.now i ≡ false }
+{
+    bits_in(state.mask)
+}
+
 // The marks of a state: bit i is set if slot i is mono.
 fn mono_marks(state: &FastState) -> u32
     ensures { result ≡ mono_marks state.now slots }
 {
     let mut marks = 0u32;
-    for slot in 0..SLOTS {
+    for slot in 0..slots_in(state) {
         marks = marks_to(marks, state, slot);
     }
     marks

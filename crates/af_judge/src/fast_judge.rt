@@ -13,13 +13,13 @@ ghost use Rattle.af_judge.specs.Foresight.{entries_foreseen, foreseen, server_of
 ghost use Rattle.af_model.specs.Cycles.{Listed};
 ghost use Rattle.af_judge.specs.Reporting.{adopted_in, state_in};
 
-use crate::entry_judge::{cold_after, cycle_of, is_marked, is_mixed, is_submix};
+use crate::entry_judge::{cold_after, cycle_of, is_marked, is_mixed, is_submix, slots_in};
 use crate::pipe_judge::PipeJudge;
 use crate::queue_judge::QueueJudge;
 use crate::server_judge::ServerJudge;
 use crate::slot_report::{Reporter, is_shown, state_of};
 use crate::track_judge::TrackJudge;
-use af_base::{Cycle, CycleEntry, FastLog, FastState, Frame, Memory, Report, SLOTS, SlotEntry};
+use af_base::{Cycle, CycleEntry, FastLog, FastState, Frame, Memory, Report, SlotEntry};
 use af_model::carries_item;
 use std::alloc::Global;
 use std::marker::Model;
@@ -94,12 +94,12 @@ fn carries_in(state: &FastState, slot: usize, track: u32) -> bool
     carries_item(state, slot) && state.slots[slot].track == track
 }
 
-// Whether a state carries the track.
+// Whether a state carries the track. It looks at no slot behind the last one of the mask.
 fn carries_track(state: &FastState, track: u32) -> bool
     ensures { result ≡ carries_track state.now track }
 {
     let mut found = false;
-    for slot in 0..SLOTS {
+    for slot in 0..slots_in(state) {
         found = either(found, carries_in(state, slot, track));
     }
     found
@@ -337,7 +337,7 @@ impl FastJudge {
         Ok(holds_if(mixed, right))
     }
 
-    // Plays all slots of a state, and answers whether all looks are right.
+    // Plays all slots of a state, and answers whether all looks are right. It looks at no slot behind the last one of the mask.
     fn play_slots(
         &self,
         state: &FastState,
@@ -349,7 +349,7 @@ impl FastJudge {
         ensures right { IfOk result (λ yes. IsTrue yes ↔ AreSlotsRight self.now.told.asked state.now log.now.frames entry.now slots tracks.old) }
     {
         let mut right = true;
-        for slot in 0..SLOTS {
+        for slot in 0..slots_in(state) {
             let played = self.play_slot(state, tracks, log, entry, slot)?;
             right = both(right, played);
         }

@@ -165,6 +165,7 @@ impl ServerJudge {
     }
 
     /// Notes what the server did.
+    #[inline(always)]
     pub fn note(&mut self, event: ServerEvent)
         ensures { (k : ServerKept) → self.old ≡ server_at self.old.shape k → self.new ≡ server_at self.old.shape (server_keeps self.old.shape k event) }
     {

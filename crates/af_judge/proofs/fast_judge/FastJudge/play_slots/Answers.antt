@@ -1,8 +1,9 @@
 use Rattle.std.specs.Prelude.{◌↔◌}
 use Rattle.std.proofs.Common.{◌≡◌, inl, inr, ℕ, suc, ◌+◌, ◌<◌, List, subst, sym, refl, ap, ◌∙◌, arith}
-use Rattle.af_judge.proofs.Common.{IsTrue, below_or_at, slots}
+use Rattle.af_judge.proofs.Common.{IsTrue, below_or_at}
 use Rattle.af_judge.specs.declared.track_judge.TrackJudge.{TrackJudge}
 use Rattle.af_judge.specs.FastKept.{AreSlotsRight, IsSlotRight, slot_played, slots_played}
+use Rattle.af_judge.proofs.SlotsIn.{played_end, right_end}
 use Rattle.af_judge.proofs.fast_judge.FastJudge.play_slots.Goals as goal
 
 none_below : (i : ℕ) → i < 0 → ⊥
@@ -39,10 +40,15 @@ loop-slot-preserved c =
 
 pub returns-clause-told : goal.returns-clause-told
 returns-clause-told c =
-    let all : c.loop-slot.slot ≡ slots = omega arith in
+    let used = c.slots_in-slot-end.result in
+    let all : c.loop-slot.slot ≡ used = omega arith in
     subst (λ n. c.loop-slot.tracks ≡ slots_played c.args.self.now.told.asked c.args.state.now c.args.log.now.frames c.args.entry.now n c.args.tracks.now) all c.loop-slot.invariant.played
+    ∙ sym (played_end c.args.self.now.told.asked c.args.state.now c.args.log.now.frames c.args.entry.now used c.args.tracks.now c.slots_in-slot-end.ensures.few c.slots_in-slot-end.ensures.rest)
 
 pub returns-clause-right : goal.returns-clause-right
 returns-clause-right c =
-    let all : c.loop-slot.slot ≡ slots = omega arith in
-    subst (λ n. IsTrue c.loop-slot.right ↔ AreSlotsRight c.args.self.now.told.asked c.args.state.now c.args.log.now.frames c.args.entry.now n c.args.tracks.now) all c.loop-slot.invariant.right
+    let used = c.slots_in-slot-end.result in
+    let all : c.loop-slot.slot ≡ used = omega arith in
+    let are = subst (λ n. IsTrue c.loop-slot.right ↔ AreSlotsRight c.args.self.now.told.asked c.args.state.now c.args.log.now.frames c.args.entry.now n c.args.tracks.now) all c.loop-slot.invariant.right in
+    let end = right_end c.args.self.now.told.asked c.args.state.now c.args.log.now.frames c.args.entry.now used c.args.tracks.now c.slots_in-slot-end.ensures.few c.slots_in-slot-end.ensures.rest in
+    (λ h. end.0 (are.0 h), λ r. are.1 (end.1 r))
