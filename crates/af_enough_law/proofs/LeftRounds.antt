@@ -22,7 +22,7 @@ use Rattle.af_enough_law.proofs.Orders.{lent_carried}
 use Rattle.af_enough_law.proofs.SessionRounds.{turn_of, turn_runs, session_carried}
 use Rattle.af_enough_law.proofs.Slots.{slot_stays}
 use Rattle.af_enough_law.proofs.TrackCarried.{TrackCarried}
-use Rattle.af_enough_law.proofs.TurnLives.{shut_turned}
+use Rattle.af_enough_law.proofs.TurnLives.{unshut_turned}
 use Rattle.af_enough_law.proofs.LastStates.{state_last}
 
 -- a draft has nothing of a track that is returning
@@ -152,10 +152,4 @@ module _ (s : Session) (marks : Marks) (scales : All (λ (x : Setting). x.scale 
 
   -- the turn doesn't hear that the track's stream is shut: else its life would have ended, and what was done to the stream would be told
   pub left_open : OpenTurn s marks run round i t
-  left_open = record { low = low_run; named = named; there = there; lawful = lawful; runs = runs; unshut = λ alive. by alive (heard (learnt t.by.outside) i g).known.shut refl }
-    where
-      by : g.life.ended ≡ false → (b : Bool) → (heard (learnt t.by.outside) i g).known.shut ≡ b → (heard (learnt t.by.outside) i g).known.shut ≡ false
-      by alive false is = is
-      by alive true is =
-          let ended = ap (λ (m : NormalKept). (track_at m.tracks i).life.ended) t.after ∙ shut_turned (setup_of s) (learnt t.by.outside) run.normal t.turn i there runs alive is in
-          absurd (true≢false (sym is ∙ open_heard (ended_seen ended)))
+  left_open = record { low = low_run; named = named; there = there; lawful = lawful; runs = runs; unshut = unshut_turned (setup_of s) (learnt t.by.outside) run.normal t.turn i there runs (λ over. open_heard (ended_seen (ap (λ (m : NormalKept). (track_at m.tracks i).life.ended) t.after ∙ over))) }

@@ -28,7 +28,7 @@ use Rattle.af_enough_law.proofs.Slots.{course_opened, slot_stays}
 use Rattle.af_enough_law.proofs.StoppedPlaces.{Place, at_home, comes, waits, unpushed, home_is, greeted_or, greeted_stays}
 use Rattle.af_enough_law.proofs.StoppedReports.{AllOut, SameSlot, slot_untouched}
 use Rattle.af_enough_law.proofs.StoppedTracks.{StoppedCarried, home_open}
-use Rattle.af_enough_law.proofs.TurnLives.{shut_turned}
+use Rattle.af_enough_law.proofs.TurnLives.{unshut_turned}
 use Rattle.af_enough_law.proofs.LastStates.{state_last}
 
 not_zero : (n : ℕ) → 3 ≤ n → (n == 0) ≡ false
@@ -195,16 +195,13 @@ module _ (s : Session) (marks : Marks) (scales : All (λ (x : Setting). x.scale 
       report_open seen = found_reported s marks run round legal c.stands c.reports t runs i slot slot_is (λ r. SaysOpen r item) (open_by seen).found
 
       unpushed_open : OpenTurn s marks run round i t
-      unpushed_open = record { low = low; named = named; there = there; lawful = lawful; runs = runs; unshut = λ alive. by alive (heard (learnt t.by.outside) i g).known.shut refl }
+      unpushed_open = record { low = low; named = named; there = there; lawful = lawful; runs = runs; unshut = unshut_turned (setup_of s) (learnt t.by.outside) run.normal t.turn i there runs unless }
         where
           heard_open : Foreseen (told_at after i).stream → (heard (learnt t.by.outside) i g).known.shut ≡ false
           heard_open seen = let r = report_open seen in heard_away ((learnt t.by.outside).own i) (slot_reported (learnt t.by.outside) g) g away (r.generation ∙ same_g same) r.unshut
 
-          by : g.life.ended ≡ false → (b : Bool) → (heard (learnt t.by.outside) i g).known.shut ≡ b → (heard (learnt t.by.outside) i g).known.shut ≡ false
-          by alive false is = is
-          by alive true is =
-              let ended = ap (λ (m : NormalKept). (track_at m.tracks i).life.ended) t.after ∙ shut_turned (setup_of s) (learnt t.by.outside) run.normal t.turn i there runs alive is in
-              absurd (true≢false (sym is ∙ heard_open (ended_seen s marks scales long run round next t i slot low named legal legal_next session keeps (ap is_returning back_then) (ap number_of stopped_slot) missing ended)))
+          unless : (track_at (turn_after (setup_of s) (learnt t.by.outside) run.normal t.turn).tracks i).life.ended ≡ true → (heard (learnt t.by.outside) i g).known.shut ≡ false
+          unless over = heard_open (ended_seen s marks scales long run round next t i slot low named legal legal_next session keeps (ap is_returning back_then) (ap number_of stopped_slot) missing (ap (λ (m : NormalKept). (track_at m.tracks i).life.ended) t.after ∙ over))
 
       unpushed_then : Place s after i slot item
       unpushed_then = by (takes_part s (met_after s run round) i) refl

@@ -1,6 +1,6 @@
 -- A track that has stopped: its client touches its stream no more, and waits to send its REMOVE.
 use Rattle.std.proofs.Common.{◌≡◌, inl, ℕ, ◌≤◌, ◌<◌, unwrap_or, Bool, true, false, true≢false, All, Option, Some, List, [], length, fold, refl, sym, ap, ◌∙◌, subst, arith}
-use Rattle.af_enough_law.proofs.Common.{BlockTold, ClientEvent, Home, LegalRound, Marks, NormalKept, RoundSeen, Run, ServerEvent, Session, Setting, Shape, TrackKept, TrackTold, Turn, after_call, after_round, all_played, calls_in, client_list, hand_list, heard, is_home, learnt, met_after, plays, server_list, setup_of, sides_of, stream_met, takes_part, told_at, track_at, track_count, track_in}
+use Rattle.af_enough_law.proofs.Common.{BlockTold, ClientEvent, Home, LegalRound, Marks, NormalKept, RoundSeen, Run, ServerEvent, Session, Setting, Shape, TrackKept, TrackTold, Turn, after_call, after_round, all_played, calls_in, client_list, hand_list, heard, is_home, learnt, met_after, plays, server_list, setup_of, sides_of, stream_met, takes_part, told_at, track_at, track_count, track_in, turn_after}
 use Rattle.af_enough_law.proofs.Basics.{part_met}
 use Rattle.af_enough_law.proofs.Carried.{SessionCarried}
 use Rattle.af_enough_law.proofs.Courses.{none_shut}
@@ -27,7 +27,7 @@ use Rattle.af_enough_law.proofs.SessionRounds.{turn_of, turn_runs}
 use Rattle.af_enough_law.proofs.StreamCalm.{IsQuiet}
 use Rattle.af_enough_law.proofs.StreamHistories.{part_stream}
 use Rattle.af_enough_law.proofs.TrackGoes.{CalmStream, said_by, all_fair, goes_by, argued_by}
-use Rattle.af_enough_law.proofs.TurnLives.{shut_turned}
+use Rattle.af_enough_law.proofs.TurnLives.{unshut_turned}
 use Rattle.af_enough_law.proofs.Turning.{Stands}
 
 -- what is carried of a stopped track, wherever its proxy is
@@ -92,15 +92,14 @@ module _ (s : Session) (marks : Marks) (scales : All (λ (x : Setting). x.scale 
 
   -- a proxy that is home when its track is served is heard to be open: else the life would have ended, and the proxy would be home at the meeting
   pub home_open : g.holder ≡ Home → OpenTurn s marks run round i t
-  home_open home = record { low = low; named = named; there = there; lawful = lawful; runs = runs; unshut = λ alive. by alive (heard (learnt t.by.outside) i g).known.shut refl }
+  home_open home = record { low = low; named = named; there = there; lawful = lawful; runs = runs; unshut = unshut_turned (setup_of s) (learnt t.by.outside) run.normal t.turn i there runs unless }
     where
-      by : g.life.ended ≡ false → (b : Bool) → (heard (learnt t.by.outside) i g).known.shut ≡ b → (heard (learnt t.by.outside) i g).known.shut ≡ false
-      by alive false is = is
-      by alive true is =
-          let ended = ap (λ (m : NormalKept). (track_at m.tracks i).life.ended) t.after ∙ shut_turned (setup_of s) (learnt t.by.outside) run.normal t.turn i there runs alive is in
+      unless : (track_at (turn_after (setup_of s) (learnt t.by.outside) run.normal t.turn).tracks i).life.ended ≡ true → (heard (learnt t.by.outside) i g).known.shut ≡ false
+      unless over =
+          let ended = ap (λ (m : NormalKept). (track_at m.tracks i).life.ended) t.after ∙ over in
           let stays = home_then s marks scales long run round legal c i named home (silent (track_at after.normal.tracks i).life ended) in
           let seen = part_seen false s marks run round t i low named legal keeps (home_part s run round i stays) in
-          absurd (true≢false (sym is ∙ home_unshut false s marks run round i low legal seen t (z.quiet (earlier seen)) (ap is_home home)))
+          home_unshut false s marks run round i low legal seen t (z.quiet (earlier seen)) (ap is_home home)
 
   module _ (turn : OpenTurn s marks run round i t) where
     said_same : said_by run round i ≡ client_list (told_at run i).stream

@@ -32,6 +32,14 @@ module _ (c : Setup) (k : Learnt) (m : NormalKept) (e : Turn) (i : ℕ) (lt : i 
   pub shut_turned : g.life.ended ≡ false → (heard k i g).known.shut ≡ true → (track_at (turn_after c k m e).tracks i).life.ended ≡ true
   shut_turned alive shut = ap (λ (l : Life). l.ended) (life_turned alive) ∙ report_ends (heard k i g).known told_life shut
 
+  -- a track that goes on doesn't hear that its server is shut, if what it heard would be open once its life had ended
+  pub unshut_turned : ((track_at (turn_after c k m e).tracks i).life.ended ≡ true → (heard k i g).known.shut ≡ false) → g.life.ended ≡ false → (heard k i g).known.shut ≡ false
+  unshut_turned unless alive = by (heard k i g).known.shut refl
+    where
+      by : (b : Bool) → (heard k i g).known.shut ≡ b → (heard k i g).known.shut ≡ false
+      by false is = is
+      by true is = unless (shut_turned alive is)
+
   -- a track that plays, takes plain words and hears that its stream is open plays on, or has ended
   pub in_turned : g.life.ended ≡ false → (heard k i g).known.shut ≡ false → plain_words (words_taken (track_in e i).looks) ≡ true → InPlay g.life → 2 ≤ g.life.retries
       → ((track_at (turn_after c k m e).tracks i).life.ended ≡ true) ⊎ (plays (track_at (turn_after c k m e).tracks i).life ≡ true)
