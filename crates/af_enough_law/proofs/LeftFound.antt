@@ -1,5 +1,5 @@
 -- The report that a turn finds in a round in which a track leaves says that its server is open, if its lists lie in a history.
-use Rattle.std.proofs.Common.{◌≡◌, ℕ, ◌≤◌, ◌<◌, is_some, false, true≢false, Some, [], ◌∷◌, ◌++◌, length, refl, sym, ap, ◌∙◌, subst, arith}
+use Rattle.std.proofs.Common.{◌≡◌, ℕ, ◌≤◌, ◌<◌, is_some, false, true≢false, Some, length, refl, sym, ap, ◌∙◌, subst, arith}
 use Rattle.af_enough_law.proofs.Common.{FastState, FastTrack, LegalRound, Marks, NormalKept, RoundSeen, Run, Session, Shape, SlotReport, after_round, after_turn, before_turn, calls_states, early_of, fast_ended, found_in, late_of, listed, report_at, report_of, server_list, slots, state_beyond, state_more, state_of, told_at, with_calls, with_cycles}
 use Rattle.af_enough_law.proofs.FastWords.{KnowsStates, Plays, IsTold, slot_told}
 use Rattle.af_enough_law.proofs.FastFound.{adds_round, calls_current}

@@ -4,7 +4,7 @@ use Rattle.af_enough_law.proofs.Common.{Active, ClientEvent, FastTrack, LegalRou
 use Rattle.af_base.specs.declared.event.ClientEvent.TheVariants as client
 use Rattle.af_enough_law.proofs.Basics.{course_long}
 use Rattle.af_enough_law.proofs.Carried.{SessionCarried}
-use Rattle.af_enough_law.proofs.Courses.{none_shut, course, Course, absent, idle, playing, stopping, drained, stopped, over, life_in}
+use Rattle.af_enough_law.proofs.Courses.{none_shut, Course, absent, idle, playing, stopping, drained, stopped, over, life_in}
 use Rattle.af_enough_law.proofs.NormalRounds.{TurnMade}
 use Rattle.af_enough_law.proofs.Playing.{AreFair}
 use Rattle.af_enough_law.proofs.Calm.{are_hands_calm}

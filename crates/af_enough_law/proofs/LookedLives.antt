@@ -1,6 +1,6 @@
 -- What a turn makes of a life by words of some kind.
 use Rattle.std.proofs.Common.{◌≡◌, ◌⊎◌, inl, inr, ℕ, ◌≤◌, ◌<◌, ◌==◌, ◌&&◌, ◌||◌, nat_le, not, if◌then◌else◌, is_some, Bool, true, false, true≢false, Option, List, [], ◌∷◌, ◌++◌, length, refl, sym, ap, ◌∙◌, subst, arith, eqb-true}
-use Rattle.af_enough_law.proofs.Common.{Absent, Active, CommandLook, Idle, Known, Learnt, Life, NormalKept, Setup, Stopped, Stopping1, Stopping2, TrackKept, Turn, after_look, after_looks, both_first, both_right, both_true, by_command, by_report, commands, ended, goes_on, heard, is_shut, must_wait, no, obeyed, plays, ready, ready_life, report_ends, shows_command, told, track_at, track_in, turn_after, words_taken}
+use Rattle.af_enough_law.proofs.Common.{Absent, Active, CommandLook, Idle, Known, Learnt, Life, NormalKept, Setup, Stopped, Stopping1, Stopping2, TrackKept, Turn, after_look, after_looks, both_first, both_right, both_true, by_command, by_report, ended, goes_on, heard, is_shut, must_wait, no, obeyed, plays, ready, ready_life, report_ends, shows_command, told, track_at, track_in, turn_after, words_taken}
 use Rattle.af_life.specs.Obeys.{commanded}
 use Rattle.af_enough_law.proofs.Courses.{Course, absent, idle, playing, stopping, drained, stopped, over, life_in}
 use Rattle.af_enough_law.proofs.TrackTurns.{TrackTurned}

@@ -1,5 +1,5 @@
 -- The report that a turn finds in the round in which the fast mixer comes to have a proxy: if it is of this attachment, it says that the server is open.
-use Rattle.std.proofs.Common.{◌≡◌, ◌⊎◌, inl, inr, ℕ, ◌≤◌, ◌<◌, ◌||◌, if◌then◌else◌, is_some, Bool, true, false, true≢false, Option, Some, None, List, [], ◌∷◌, ◌++◌, length, refl, sym, ap, ◌∙◌, subst, arith}
+use Rattle.std.proofs.Common.{◌≡◌, ◌⊎◌, inl, inr, ℕ, ◌≤◌, ◌<◌, ◌||◌, if◌then◌else◌, is_some, Bool, true, false, true≢false, Option, Some, None, List, [], ◌∷◌, length, refl, sym, ap, ◌∙◌, subst, arith}
 use Rattle.af_enough_law.proofs.Common.{ClientEvent, EntrySeen, FastState, FastTrack, LegalEntries, LegalEntry, Listed, Marks, Run, ServerEvent, Session, Shape, SlotReport, TrackTold, carried, carries, counted_look, cycle_frames, entry_slot, is_shown, known_of, last_used, listed, mixed_track, no_slot, played, polled_known, polled_pushed, polled_waits, report_at, server_kept, server_list, slot_playing, slot_of, slot_report, slots, state_at, state_for, state_of, stream_of, told_at, with_cycle, with_cycles, with_looks, with_mix, with_poll}
 use Rattle.af_enough_law.proofs.Basics.{state_there}
 use Rattle.af_runs.specs.Runs.{shows_slot}

@@ -1,5 +1,5 @@
 -- What the reports of a round say of a proxy that the fast mixer has, or comes to have in it.
-use Rattle.std.proofs.Common.{◌≡◌, ℕ, ◌≤◌, ◌<◌, is_some, true, false, true≢false, Some, List, [], ◌∷◌, ◌++◌, length, refl, sym, ap, ◌∙◌, subst, arith, unwrap_or, Option, length-append}
+use Rattle.std.proofs.Common.{◌≡◌, ℕ, ◌≤◌, ◌<◌, is_some, true, false, true≢false, Some, List, [], ◌∷◌, length, refl, sym, ap, ◌∙◌, subst, arith, unwrap_or, Option, length-append}
 use Rattle.af_enough_law.proofs.Common.{ClientEvent, EntrySeen, FastState, FastTrack, LegalEntries, LegalRound, Marks, NormalKept, RoundSeen, Run, ServerEvent, Session, Shape, after_round, after_turn, before_turn, calls_states, carries, cycle_frames, early_of, fast_ended, found_in, initial, initial_none, known_of, late_of, listed, polled_pushed, report_at, report_of, server_kept, server_list, slot_of, slots, state_at, state_beyond, state_more, state_of, told_at, with_calls, with_cycle, with_cycles}
 use Rattle.af_enough_law.proofs.FastWords.{KnowsStates, slot_told, HasItem}
 use Rattle.af_enough_law.proofs.FastFlows.{cycles_later}

@@ -117,10 +117,6 @@ module _ (script : ScriptData) (files : List (List Frame)) (marks : Marks) (form
     some_three : 47 ≤ (track_at three.normal.tracks i).life.retries
     some_three = retries_round s marks scales long two r.third r.legal.1.1.0 at_two.stands i 47 named (omega arith) some_two
 
-    -- each track has this many retries at least
-    pub start_retries : 46 ≤ (track_at four.normal.tracks i).life.retries
-    start_retries = retries_round s marks scales long three r.fourth r.legal.1.1.1.0 at_three.stands i 46 named (omega arith) some_three
-
     -- what the track's client has to do
     pub begun_track : Begun s i
     begun_track = begins_track script files i form through named

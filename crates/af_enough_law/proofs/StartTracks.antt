@@ -20,7 +20,7 @@ use Rattle.af_enough_law.proofs.HomeRounds.{IsNamed, keeps_of, home_part, home_c
 use Rattle.af_enough_law.proofs.SessionRounds.{turn_of, turn_runs}
 use Rattle.af_enough_law.proofs.StoppedPlaces.{at_home, home_is}
 use Rattle.af_enough_law.proofs.StreamHistories.{part_stream}
-use Rattle.af_enough_law.proofs.TakenRounds.{IsCounted, knows_sent, counted_then}
+use Rattle.af_enough_law.proofs.TakenRounds.{knows_sent}
 use Rattle.af_enough_law.proofs.TrackCarried.{TrackCarried, TrackGone, fair}
 
 -- ## Where a proxy is after a round that it began at home
@@ -122,10 +122,6 @@ module _ (s : Session) (marks : Marks) (scales : All (λ (x : Setting). x.scale 
             out = silent;
           })
           (at_home stays)
-
-    -- what was taken is counted, and all that was sent before the round is taken
-    pub home_counted : IsCounted run i → IsCounted after i
-    home_counted counted = counted_then false s marks run round i t legal numbers goes (open_of run i most total track) counted
 
     pub home_knows : KnowsReleased (told_at after i).commands
     home_knows = knows_sent false s marks run round i t legal numbers goes (open_of run i most total track)

@@ -1,5 +1,5 @@
 -- A round whose states have nothing of a track leaves what the reports say of its slot.
-use Rattle.std.proofs.Common.{◌≡◌, ℕ, ◌≤◌, ◌<◌, false, Option, Some, None, List, [], ◌∷◌, ◌++◌, length, refl, sym, ap, ◌∙◌, subst, arith}
+use Rattle.std.proofs.Common.{◌≡◌, ℕ, ◌≤◌, ◌<◌, false, Option, Some, None, List, [], ◌∷◌, length, refl, sym, ap, ◌∙◌, subst, arith}
 use Rattle.af_enough_law.proofs.Common.{EntrySeen, FastState, LegalEntries, LegalEntry, LegalRound, Marks, RoundSeen, Run, Session, SlotReport, after_round, after_turn, before_turn, calls_states, carries, early_of, entry_slot, fast_ended, found_in, is_shown, last_report, late_of, polled_known, report_at, report_of, slots, state_for, state_of, with_calls, with_cycle, with_cycles, with_looks, with_mix, with_poll}
 use Rattle.af_enough_law.proofs.Basics.{state_there}
 use Rattle.af_enough_law.proofs.FastWords.{AllUse, KnowsStates, slot_told}

@@ -5,7 +5,7 @@ use Rattle.af_enough_law.proofs.Basics.{not_over, some_is, stays_home}
 use Rattle.af_enough_law.proofs.Acks.{KnowsAcked, turn_sees_ack}
 use Rattle.af_enough_law.proofs.Carried.{SessionCarried}
 use Rattle.af_enough_law.proofs.Drafts.{next_holder, is_busy, PushMade, holder_turned}
-use Rattle.af_enough_law.proofs.Ends.{IsInOrder, silent}
+use Rattle.af_enough_law.proofs.Ends.{IsInOrder}
 use Rattle.af_enough_law.proofs.FastWords.{Plays, IsTold, slot_told}
 use Rattle.af_enough_law.proofs.NormalRounds.{TurnMade}
 use Rattle.af_enough_law.proofs.CommandsGo.{OpenTurn}
