@@ -2,8 +2,7 @@
 use Rattle.std.specs.Prelude.{◌↔◌}
 use Rattle.std.proofs.Common.{◌≡◌, ◌⊎◌, ◌≢◌, inl, inr, ℕ, zero, suc, ◌+◌, ◌<◌, ◌≤◌, Bool, true, false, fold, List, [], ◌∷◌, ◌++◌, length, take, replicate, Some, refl, sym, ap, subst, ◌∙◌, arith, true≢false}
 use Rattle.af_judge.proofs.Common.{Event, IsTrue, below_or_at, get_or-set_other, get_or-set_same, one, slice_get, slice_get_cases, slice_index_or, slice_set, take_step, two}
-use Rattle.af_judge.specs.TwoEnds.{Ends, HasEndsOrder, AreOpen}
-use Rattle.af_judge.proofs.Words.{ends_after}
+use Rattle.af_judge.specs.TwoEnds.{AreOpen, Ends, HasEndsOrder, ends_after}
 use Rattle.af_judge.proofs.TwoEnds.{reach_none, reach_one, reach_two, back_none, back_first, back_both}
 
 -- ## A loop that opens counts

@@ -12,8 +12,7 @@ use Rattle.af_judge.specs.declared.queue_judge.ObserverStep.{ObserverStep}
 use Rattle.af_judge.specs.declared.queue_judge.ObserverStep.TheVariants as looks
 use Rattle.af_judge.specs.QueueNumbers.{HasStepOrder, Numbers, may_step, mutator_after, numbers, observer_after, queue_begins}
 use Rattle.af_judge.specs.QueueTold.{Fits, Follow, TellsSteps, TellsLooks}
-use Rattle.af_judge.specs.TwoEnds.{ends_next}
-use Rattle.af_judge.proofs.Words.{ends_after}
+use Rattle.af_judge.specs.TwoEnds.{ends_after, ends_next}
 use Rattle.af_judge.proofs.TwoEnds.{after_lists}
 
 -- ## Items

@@ -2,8 +2,7 @@
 use Rattle.std.proofs.Common.{◌≡◌, ◌⊎◌, inl, inr, suc, List, [], ◌∷◌, ◌++◌, length, refl, sym, ap, subst, ◌∙◌, arith, length-append}
 use Rattle.af_judge.proofs.Common.{Event, Legal, point_after, legal_at, one, ones, two, twos}
 use Rattle.af_model.proofs.Orders.{ones_one, ones_two, twos_one, twos_two, add_one, add_two}
-use Rattle.af_judge.specs.TwoEnds.{Ends, ends_next, HasEndsOrder}
-use Rattle.af_judge.proofs.Words.{ends_after}
+use Rattle.af_judge.specs.TwoEnds.{Ends, HasEndsOrder, ends_after, ends_next}
 
 -- ## The last of a list
 
