@@ -1,5 +1,5 @@
 -- The names of other crates that the proofs of this one cite, passed on from one place. Declares nothing.
-pub use Rattle.af_base.proofs.Basics.{all_more, and_false, and_none, and_true, below_is, below_or_at, both, clear_other, clear_same, equal_turned, is_not_below, less_differs, map_last, never_true, no, none_and, none_more, not_below_is, on_ok, or_assoc, or_both, or_false, or_nothing, or_right, or_true, same_slot, set_other, set_same, take_step, within_or_beyond}
+pub use Rattle.af_base.proofs.Basics.{all_more, and_false, and_true, below_is, below_or_at, both, is_not_below, less_differs, map_last, no, none_more, not_below_is, on_ok, or_assoc, or_both, or_false, or_nothing, or_right, or_true, same_slot, take_step, within_or_beyond}
 pub use Rattle.af_base.specs.Log.{absent, count_seen, entry_at, entry_slot, frames_taken, no_entry, slots}
 pub use Rattle.af_base.specs.Mix.{Take, mix, mixed_frame}
 pub use Rattle.af_base.specs.Sample.{packed_word}
@@ -23,25 +23,23 @@ pub use Rattle.af_base.specs.declared.state.Push.TheVariants.{Busy, Clean, Pushe
 pub use Rattle.af_base.specs.declared.turn.CommandLook.{CommandLook}
 pub use Rattle.af_base.specs.declared.turn.NormalTake.{NormalTake}
 pub use Rattle.af_base.specs.declared.turn.TrackTurn.{TrackTurn}
-pub use Rattle.af_life.proofs.Basics.{all_three, at_here, at_new, at_other, at_set, away_holds, each_set, either, has_slot, inside, lent_away, none_holds, not_ended, picks, returning_away, scale_fits, set_each, slot_is, slot_of_away, sound_ordered, takes_len, welcomed_at}
+pub use Rattle.af_life.proofs.Basics.{at_here, at_other, at_set, away_holds, inside, lent_away, scale_fits, sound_ordered, takes_len, welcomed_at}
 pub use Rattle.af_life.proofs.Lives.{acked_len, edits_len, not_yet, served_len, turn_len}
 pub use Rattle.af_life.proofs.LooksSoFar.{after_all, are_due-go}
 pub use Rattle.af_life.specs.Edits.{after_ack, after_push, comes_home, edited_to, entered, lent_by, must_enter, must_leave, next_command}
 unfoldable pub use Rattle.af_life.specs.Edits.{edited, lend, let_go, mutated, ordered, welcomed}
-pub use Rattle.af_life.specs.Heard.{heard, is_reached, is_reported, known_by, learnt, ready, slot_reported}
-unfoldable pub use Rattle.af_life.specs.Heard.{noted, settled_at}
+pub use Rattle.af_life.specs.Heard.{heard, known_by, learnt, ready}
 pub use Rattle.af_life.specs.Kept.{Learnt, NormalKept, Outside, Setup, asked, is_home, is_lent, is_returning, new_normal, new_track, nothing_heard, nothing_seen, number_of, pipe_size, seen_at, setting_of, slot_number, track_at, track_in}
 pub use Rattle.af_life.specs.Looks.{HasWords, LegalLooks, all_command_events, as_slot, command_events, did, takes_command, words_taken}
-pub use Rattle.af_life.specs.Obeys.{after_looks, are_due, commanded, ended, free_slot, goes_on, holds, is_shut, must_wait, opens, shows_command, slot_for, told}
+pub use Rattle.af_life.specs.Obeys.{are_due, ended, goes_on, holds, shows_command, slot_for}
 pub use Rattle.af_life.proofs.Words.{all_go_on}
-unfoldable pub use Rattle.af_life.specs.Obeys.{obeyed}
 pub use Rattle.af_life.specs.Plain.{Plain, learnt_of}
-pub use Rattle.af_life.specs.Plays.{LegalTake, after_take, after_takes, look_counted, is_mixed_here, mixed_here, put_by, take_of, tracks_due}
-pub use Rattle.af_life.specs.Reports.{Case, reports, told_by_report}
+pub use Rattle.af_life.specs.Plays.{LegalTake, after_take, after_takes, is_mixed_here, mixed_here, put_by, take_of, tracks_due}
+pub use Rattle.af_life.specs.Reports.{told_by_report}
 unfoldable pub use Rattle.af_life.specs.Reports.{by_report}
 pub use Rattle.af_life.specs.Serves.{HasDueLooks, IsServed, LegalTrack, after_commands, is_found_shut, served_to, status_due, stored_over}
 unfoldable pub use Rattle.af_life.specs.Serves.{after_part, served}
-pub use Rattle.af_life.specs.Sound.{AreAlone, IsDrafted, IsSlotted, IsSound}
+pub use Rattle.af_life.specs.Sound.{IsSound}
 pub use Rattle.af_life.specs.Turn.{GoesOn, LegalTurn, after_edits, after_tracks, ends_now}
 unfoldable pub use Rattle.af_life.specs.Turn.{turn_after}
 pub use Rattle.af_life.specs.TurnEvents.{command_list, going, invalid, mix_events, mutator_list, number_seen, pipe_list, push_list, status_events, stream_list, takes_from, tracks_at}
@@ -59,7 +57,7 @@ pub use Rattle.af_model.proofs.Splits.{legal_at, ones_append}
 pub use Rattle.af_model.proofs.UsedStates.{UseUpTo-more, UseUpTo-push, cold_done-before}
 pub use Rattle.af_model.specs.ClientCalls.{ClientKept, IsClientList, client_begins, client_call_events, client_events_of, client_keeps, client_kept}
 pub use Rattle.af_model.specs.Cycles.{Found, IsSeen, Listed, LooksBy, Mixes, TrackSlot, UseUpTo, events_behind_look, cold_done, cold_of, cycle_events, cycle_of, has_exit, is_cold, is_exit, is_mixed, kept, last_used, mix_scale, mono_marks, state_of, submix_slot, taken_before, takes_shown, tally}
-pub use Rattle.af_model.specs.Draft.{attached, detached, initial}
+pub use Rattle.af_model.specs.Draft.{detached, initial}
 pub use Rattle.af_model.specs.Fates.{InTurn, drops_none}
 pub use Rattle.af_model.specs.History.{HasHistory, IsLegal, May, Moment, by_client, by_hand, by_server, client_of, clients_at, flush_in, flushes_of, hand_of, is_lawful, is_no_poke, met_in, server_of, taken_of, with_taken}
 pub use Rattle.af_model.specs.JournalForm.{AreEntries, IsEntry, IsJournal, IsOpenTurn, IsTake, IsTurn, TracksRise}

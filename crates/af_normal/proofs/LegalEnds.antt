@@ -1,5 +1,5 @@
 -- The lists of the report's reader, of the pipe and of the mutator grow by what the entry of a turn says, and all is joined.
-use Rattle.std.proofs.Common.{◌≡◌, ℕ, zero, suc, ◌+◌, ◌<◌, ◌*◌, ◌==◌, ◌&&◌, not, Bool, true, false, if◌then◌else◌, true≢false, is_some, inl, sym, refl, ap, subst, ◌∙◌, List, [], ◌∷◌, ◌++◌, append_assoc, append-nil, length, map, Option, Some, None, eq-eqb, ne_eqb, arith}
+use Rattle.std.proofs.Common.{◌≡◌, ℕ, zero, suc, ◌+◌, ◌<◌, ◌*◌, ◌==◌, ◌&&◌, not, Bool, true, false, if◌then◌else◌, true≢false, is_some, inl, sym, refl, ap, subst, ◌∙◌, List, [], ◌∷◌, ◌++◌, append_assoc, append-nil, length, map, Option, Some, eq-eqb, ne_eqb, arith}
 use Rattle.af_normal.proofs.Common.{Busy, Clean, Frame, InSide, Learnt, Links, Load, Mutates, NormalKept, Push, Pushed, Pushes as Past, Report, SeesIt, ServerEvent, ServerState, Setup, StreamNames, TakeSeen, TrackKept, Turn, WasAcked, WasPushed, after_edits, asked, at, code_of, commands_exit, cycle_events, draft_commanded as with_command, flat_map, is_home, most_tracks, must_enter, mutator_list, none_and, nothing_heard, number_seen, packed_word, pipe_size, push_list, put_by, releases_of, room_by, served_to, shows, slice_get, slot_number, slot_of_away, slots, stream_list, takes_from, track_at, tracks_at}
 use Rattle.af_base.specs.declared.event.ClientEvent.TheVariants as client
 use Rattle.af_cblk.specs.declared.view.ClientPart.{ClientPart}

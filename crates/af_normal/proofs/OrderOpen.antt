@@ -1,5 +1,5 @@
 -- An edit of the draft keeps the order.
-use Rattle.std.proofs.Common.{◌≡◌, ◌≢◌, ℕ, ◌+◌, ◌<◌, ◌≤◌, ◌^◌, Bool, true, false, true≢false, is_some, MatchBool, sym, refl, ap, subst, ◌∙◌, List, length, length-set, Option, Some, None, ⊎_elim, get_or-set_same, get_or-set_other, arith}
+use Rattle.std.proofs.Common.{◌≡◌, ◌≢◌, ℕ, ◌+◌, ◌<◌, ◌≤◌, ◌^◌, Bool, true, false, true≢false, is_some, MatchBool, sym, refl, ap, subst, ◌∙◌, List, length, length-set, Some, None, ⊎_elim, get_or-set_same, get_or-set_other, arith}
 use Rattle.af_normal.proofs.Common.{FastTrack, Heard, IsStreamOf, Links, Made, Returning, ServerState, StreamNames, TrackKept, at_here, at_other, cases_eq, entered, is_home, is_out, known_by, lent_by, listed, must_enter, must_leave, no, no_fast_track, nothing_heard, scale_fits, setting_of, slice_set, slot_number, slot_of, slots, track_at}
 use Rattle.af_normal.specs.Editing.{LetsGo, Lends, lets_go, lends}
 use Rattle.af_normal.specs.Mixing.{stream_at}

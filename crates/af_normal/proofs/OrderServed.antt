@@ -1,5 +1,5 @@
 -- Serving the tracks keeps the order.
-use Rattle.std.proofs.Common.{◌≡◌, ℕ, zero, suc, ◌<◌, ◌≤◌, Bool, false, true≢false, is_some, sym, refl, ap, subst, ◌∙◌, inl, inr, List, [], ◌∷◌, length, Option, Some, None, arith}
+use Rattle.std.proofs.Common.{◌≡◌, ℕ, zero, suc, ◌<◌, ◌≤◌, Bool, false, true≢false, is_some, sym, refl, ap, subst, ◌∙◌, inl, inr, List, length, Option, Some, None, arith}
 use Rattle.af_normal.proofs.Common.{FastState, IsSound, Learnt, Links, Report, ServerEvent, ServerState, Setup, TrackKept, TrackSeen, at_set, is_home, is_out, number_of, seen_at, served, served_len, served_to, slice_get_within, slice_set, slot_for, track_at}
 use Rattle.af_normal.specs.Mixing.{stream_at}
 use Rattle.af_normal.specs.Order.{AreThere, IsOut, IsTied}

@@ -1,6 +1,6 @@
 -- The stages of a turn in a row: what each leaves, and that its numbers stay small.
-use Rattle.std.proofs.Common.{◌≡◌, inl, inr, ℕ, zero, suc, ◌*◌, ◌<◌, ◌≤◌, ◌^◌, ◌&&◌, not, Bool, true, false, true≢false, is_some, MatchBool, sym, refl, ap, subst, ◌∙◌, List, [], ◌∷◌, length, map, All, Option, Some, None, arith}
-use Rattle.af_normal.proofs.Common.{All-from_get_or, AreUpTo, CommandLook, IsServed, IsSmall, Learnt, LegalTrack, Links, Mutates, NormalKept, Push, Pushes as Past, Report, ServerState, Setup, StreamNames, TrackKept, TrackSeen, acked, acked_len, are_due, both_first, cases_lt, due_len, heard, invalid, kept, known_by, listed, most_looks, most_tracks, mutated, new_track, not_true, nothing_seen, plays, ready, seen_at, served_to, slice_get, slot_for, slot_of, some_at, some_same, track_at, track_seen}
+use Rattle.std.proofs.Common.{◌≡◌, inl, inr, ℕ, zero, suc, ◌*◌, ◌<◌, ◌≤◌, ◌^◌, not, Bool, true, false, true≢false, is_some, MatchBool, sym, refl, ap, subst, ◌∙◌, List, [], ◌∷◌, length, map, All, Option, Some, None, arith}
+use Rattle.af_normal.proofs.Common.{All-from_get_or, AreUpTo, CommandLook, IsServed, IsSmall, Learnt, LegalTrack, Links, Mutates, NormalKept, Push, Pushes as Past, Report, ServerState, Setup, StreamNames, TrackKept, TrackSeen, acked, acked_len, are_due, both_first, cases_lt, due_len, heard, invalid, kept, known_by, listed, most_looks, most_tracks, mutated, new_track, not_true, nothing_seen, plays, ready, seen_at, served_to, slot_for, slot_of, some_at, some_same, track_at, track_seen}
 use Rattle.af_normal.specs.AllMixed.{AreHome, HasTakes}
 use Rattle.af_normal.specs.Mixing.{stream_at}
 use Rattle.af_normal.specs.Mutating.{EditsAll, Pushes, begun}
