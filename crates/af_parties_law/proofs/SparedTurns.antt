@@ -186,7 +186,7 @@ module _ (links : Links) (x y : NormalState) (order : IsInOrder links x) (o : Ou
           let none : is_some (track_at edited.tracks i).slot ≡ false = not_true (is_some (track_at edited.tracks i).slot) (both_first (not (is_some (track_at edited.tracks i).slot)) _ due) in
           let homely : is_home (track_at edited.tracks i).holder ≡ true = (edits_sound.slotted i).homely none in
           ap (λ (ts : List TrackKept). is_home (track_at ts i).holder) (turned_tracks ended)
-          ∙ ap is_home (stays_all (asked c) edited.draft e.mixes (after_push e.push edited).tracks i).0
+          ∙ ap is_home (stays_all (asked c) e.mixes (after_push e.push edited).tracks i).0
           ∙ ap (λ (ts : List TrackKept). is_home (track_at ts i).holder) (same_tracks e.push edited)
           ∙ homely
 

@@ -193,7 +193,7 @@ module _ (c : Setup) (scales : All (λ (s : Setting). s.scale ≤ 4096) c.settin
       let served_sound : Sound served = sound_served c k e.tracks acked.draft acked.tracks (length acked.tracks) acked_sound in
       let pushed : NormalKept = after_push e.push (after_edits c k e m) in
       let third : Leads x pushed = leads_pushed e.push (after_edits c k e m) (leads_mutated e.room served (omega (arith, few, long)) served_sound second) in
-      let stays = stays_all (asked c) pushed.draft e.mixes pushed.tracks in
+      let stays = stays_all (asked c) e.mixes pushed.tracks in
       record {
         draft = lent_put pushed.tracks (after_takes c e.mixes pushed).tracks stays pushed.draft third.draft;
         last = away_put pushed.tracks (after_takes c e.mixes pushed).tracks stays pushed.last third.last;
